@@ -1,0 +1,2 @@
+-- Parts of a memory.
+pub mod Part
