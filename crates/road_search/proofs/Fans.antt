@@ -76,7 +76,7 @@ module _ {mem : List ℕ} {vertices n roads count : ℕ} (laid : Laid mem vertic
       omega (arith, ap (firstOut mem vertices) same)
   rises u (suc k) h =
       let next : u + k + 1 ≡ u + suc k = omega arith in
-      omega (arith, rises u k (omega arith), laid .ordered (u + k) (omega arith), ap (firstOut mem vertices) next)
+      omega (arith, rises u k (omega arith), laid .vertex (u + k) (omega arith) .ordered (omega arith), ap (firstOut mem vertices) next)
 
   rises-to : (u v : ℕ) → u ≤ v → v < n → firstOut mem vertices u ≤ firstOut mem vertices v
   rises-to u v less h =
@@ -85,8 +85,8 @@ module _ {mem : List ℕ} {vertices n roads count : ℕ} (laid : Laid mem vertic
 
   next-limit : (u : ℕ) → u < n → (firstOut mem vertices u ≤ nextOut mem vertices n count u) × (nextOut mem vertices n count u ≤ count)
   next-limit u there = elim (decLt (u + 1) n) [
-    | yes more ↦ rw (next-word mem vertices n count u more) (laid .ordered u more, laid .ends (u + 1) more)
-    | no last ↦ rw (next-end mem vertices n count u (omega arith)) (laid .ends u there, omega arith)
+    | yes more ↦ rw (next-word mem vertices n count u more) (laid .vertex u there .ordered more, laid .vertex (u + 1) more .ends)
+    | no last ↦ rw (next-end mem vertices n count u (omega arith)) (laid .vertex u there .ends, omega arith)
   ]
 
   -- a road among those out of u leaves u

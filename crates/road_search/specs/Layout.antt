@@ -7,8 +7,8 @@ use Prim.Native.Nat.{ℕ, zero, suc, _+_, _*_, _-_, _≤_, _<_}
 use lib.Dec.{ltb}
 use lib.ListN.{length}
 use Rattle.words.specs.Limits.{mostVertices, mostWeight}
-use Rattle.words.specs.Lists.{word}
-use Rattle.roads.specs.Map.{Road, Map}
+use Rattle.words.specs.Lists.{word, keep}
+use Rattle.roads.specs.Map.{Road, Map, roadCount}
 use Rattle.roads.specs.Dist.{dist}
 
 -- the road whose words start at `at`
@@ -33,6 +33,11 @@ unfoldable pub outOf : List ℕ → ℕ → ℕ → ℕ → ℕ → ℕ → List
 outOf mem vertices n roads count v =
     shownRoads mem (roads + 4 * firstOut mem vertices v) (nextOut mem vertices n count v - firstOut mem vertices v)
 
+-- vertex v, of a map with n vertices and `count` roads: its first road out is no later than the next vertex's, nor than past all roads
+pub record LaidVertex (mem : List ℕ) (vertices n count v : ℕ) : Type 0 where
+  pub ends : firstOut mem vertices v ≤ count
+  pub ordered : v + 1 < n → firstOut mem vertices v ≤ firstOut mem vertices (v + 1)
+
 -- road j, of a map with n vertices: its ends exist, its weight is within the limit, and it stands among the roads out of the vertex that it leaves
 pub record LaidRoad (mem : List ℕ) (vertices n j : ℕ) (r : Road) : Type 0 where
   pub from-below : r .from < n
@@ -46,9 +51,19 @@ pub record Laid (mem : List ℕ) (vertices n roads count : ℕ) : Type 0 where
   pub few : n ≤ mostVertices
   pub vertices-fit : vertices + 8 * n ≤ length mem
   pub roads-fit : roads + 4 * count ≤ length mem
-  pub ordered : (v : ℕ) → v + 1 < n → firstOut mem vertices v ≤ firstOut mem vertices (v + 1)
-  pub ends : (v : ℕ) → v < n → firstOut mem vertices v ≤ count
+  pub vertex : (v : ℕ) → v < n → LaidVertex mem vertices n count v
   pub road : (j : ℕ) → j < count → LaidRoad mem vertices n j (shownRoad mem (roads + 4 * j))
+
+-- how many roads leave a lower vertex than v
+abbrev pub lowerRoads : List Road → ℕ → ℕ
+lowerRoads rs v = length (keep (λ r. ltb (r .from) v) rs)
+
+-- the words show the roads of the map m, and of each vertex the number of its first road out
+pub record Shown (mem : List ℕ) (vertices roads : ℕ) (m : Map) : Type 0 where
+  pub vertices-fit : vertices + 8 * m .vertices ≤ length mem
+  pub roads-fit : roads + 4 * roadCount m ≤ length mem
+  pub all-roads : shownRoads mem roads (roadCount m) ≡ m .roads
+  pub first-out : (v : ℕ) → v < m .vertices → firstOut mem vertices v ≡ lowerRoads (m .roads) v
 
 -- the labels are the distances from a, in every map that has n vertices and the roads that the words show
 abbrev pub Measured : List ℕ → ℕ → ℕ → ℕ → ℕ → List ℕ → Type 0

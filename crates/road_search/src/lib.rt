@@ -23,7 +23,8 @@ fn wide(x: u32) -> u64
     x as u64
 }
 
-fn index(x: u32) -> usize
+// A word as a place.
+pub fn index(x: u32) -> usize
     ensures { λ r. ⌜ r ≡ x ⌝ }
 {
     x as usize
