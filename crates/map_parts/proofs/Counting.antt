@@ -82,6 +82,7 @@ module _ {numbers : List ℕ} {n : ℕ} where
   counting-done {counts} i s h =
       record {
         room = s .room;
+        few = λ p. omega (arith, s .few p, s .reached);
         each = λ p hp. (let none : n - i ≡ 0 = omega arith in omega (arith, ap (λ (k : ℕ). tallied numbers i k p) none)) ∙ s .each p hp;
       }
 
