@@ -11,7 +11,7 @@ ghost use Rattle.roads.specs.Map.{Map};
 ghost use Rattle.map_bytes.specs.Each.{eachFrom};
 ghost use Rattle.map_borders.specs.Lift.{lesserOf, greaterOf, meet, lowered, lifted, Lifted};
 ghost use Rattle.map_borders.specs.Mark.{bumped, Marked, Counted, fewAt};
-ghost use Rattle.map_borders.specs.Sizes.{Given, Sizes};
+ghost use Rattle.map_borders.specs.Sizes.{Given, Lifts, Sizes};
 
 fn lesser(x: u32, y: u32) -> u32
     ensures { λ r. ⌜ r ≡ lesserOf x y ⌝ }
@@ -77,7 +77,7 @@ fn lift_road(parents: &[u32], leaves: &[u32], body: &[u8], i: u32, lifts: &mut [
 }
 
 // Every road lowers the lifts of its ends. They start at 65,535.
-pub fn lift_all(parents: &[u32], leaves: &[u32], body: &[u8], roads: u32, lifts: &mut [u32; 4096])
+fn lift_all(parents: &[u32], leaves: &[u32], body: &[u8], roads: u32, lifts: &mut [u32; 4096])
     requires { ⌜ (length (now lifts) ≡ 4096) × ((v : ℕ) → v < 4096 → word (now lifts) v ≡ 65535) ⌝ }
     ensures { λ _. ⌜ Lifted (now (parents .entry)) (now (leaves .entry)) (now (body .entry)) roads (now (lifts .exit)) ⌝ }
 {
@@ -138,23 +138,23 @@ fn count_all(
     }
 }
 
-// The number of rows of each part: the vertices that stand in it, which only a leaf has, and its borders, which only a
-// non-leaf part has.
-pub fn part_sizes(
+// The lift of each vertex; and the number of rows of each part, which is the vertices that stand in it, which only a leaf
+// has, and its borders, which only a non-leaf part has.
+pub fn measure(
     parents: &[u32],
     leaves: &[u32],
     body: &[u8],
     vertices: u32,
     roads: u32,
+    lifts: &mut [u32; 4096],
     sizes: &mut [u32; 512],
 )
-    requires { ⌜ (vertices ≤ 4096) × (length (now sizes) ≡ 512) × ((p : ℕ) → word (now sizes) p ≡ 0) ⌝ }
-    ensures { λ _. ⌜ ((m : Map) (parts : ℕ) → Given m (now (parents .entry)) (now (leaves .entry)) (now (body .entry)) vertices roads parts → Sizes m (now (sizes .exit))) ⌝ }
+    requires { ⌜ (vertices ≤ 4096) × (length (now lifts) ≡ 4096) × ((v : ℕ) → v < 4096 → word (now lifts) v ≡ 65535) × (length (now sizes) ≡ 512) × ((p : ℕ) → word (now sizes) p ≡ 0) ⌝ }
+    ensures { λ _. ⌜ (length (now (lifts .exit)) ≡ 4096) × (length (now (sizes .exit)) ≡ 512) × ((m : Map) (parts : ℕ) → Given m (now (parents .entry)) (now (leaves .entry)) (now (body .entry)) vertices roads parts → Lifts m (now (lifts .exit)) × Sizes m (now (sizes .exit))) ⌝ }
 {
-    let mut lifts: [u32; 4096] = [65535; 4096];
-    lift_all(parents, leaves, body, roads, &mut lifts);
+    lift_all(parents, leaves, body, roads, lifts);
     tally(leaves, vertices, sizes);
-    count_all(parents, leaves, &lifts, vertices, sizes);
+    count_all(parents, leaves, lifts, vertices, sizes);
 }
 
 // No part has more than 128 rows.
