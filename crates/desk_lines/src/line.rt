@@ -3,7 +3,7 @@ ghost use mathlib.Core.Path.{_≡_};
 ghost use Prim.Native.Nat.{_+_, _≤_, _<_};
 ghost use mathlib.Core.List.{_++_, _∷_, []};
 ghost use lib.ListN.{length, set};
-ghost use Rattle.desk_lines.specs.Line.{digits, decimal, textOf};
+ghost use Rattle.desk_lines.specs.Line.{codes, digits, decimal, textOf};
 ghost use Rattle.desk_lines.specs.Written.{Wrote, oneText, threeText};
 
 // A line but for its text: each starts with the place of its call, the opening being 0.
@@ -103,6 +103,25 @@ fn put_end(out: &mut [u8], at: usize) -> usize
     at + 1
 }
 
+// A line with a name alone.
+fn put_none(out: &mut [u8], at: usize, place: u32, name: &[u8]) -> usize
+    requires { ⌜ (at < 4294960000) × (length (now name) ≤ 16) ⌝ }
+    ensures { λ r. ⌜ Wrote (now (out .entry)) at (decimal place ++ now (name .entry) ++ (10 ∷ [])) r (now (out .exit)) ⌝ }
+{
+    let named = put_name(out, at, place, name);
+    put_end(out, named)
+}
+
+// The last line.
+fn put_last(out: &mut [u8], at: usize, place: u32) -> usize
+    requires { ⌜ at < 4294960000 ⌝ }
+    ensures { λ r. ⌜ Wrote (now (out .entry)) at (codes "end" ++ (32 ∷ decimal place) ++ (10 ∷ [])) r (now (out .exit)) ⌝ }
+{
+    let named = put_text(out, at, b"end");
+    let numbered = put_number(out, named, place);
+    put_end(out, numbered)
+}
+
 // A line with one number.
 fn put_one(out: &mut [u8], at: usize, place: u32, name: &[u8], a: u32) -> usize
     requires { ⌜ (at < 4294960000) × (length (now name) ≤ 16) ⌝ }
@@ -145,14 +164,7 @@ pub fn write_line(out: &mut [u8], at: usize, line: Line) -> usize
             distance,
             stamp,
         } => put_three(out, at, place, b" van", number, distance, stamp),
-        Line::Bad { place } => {
-            let named = put_name(out, at, place, b" bad");
-            put_end(out, named)
-        }
-        Line::End { place } => {
-            let named = put_text(out, at, b"end");
-            let numbered = put_number(out, named, place);
-            put_end(out, numbered)
-        }
+        Line::Bad { place } => put_none(out, at, place, b" bad"),
+        Line::End { place } => put_last(out, at, place),
     }
 }
