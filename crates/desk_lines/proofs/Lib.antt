@@ -3,3 +3,4 @@ pub mod Sized
 pub mod Taking
 pub mod Writing
 pub mod Texts
+pub mod Window
