@@ -1,0 +1,179 @@
+//! The C functions over the reference, so that the comparisons can be run before there is an archive of the core.
+//!
+//! The state of each opened memory is kept in a table by the address of its first word.
+
+use reference::{opened_head, State};
+use std::collections::HashMap;
+use std::sync::Mutex;
+
+#[repr(C)]
+pub struct Reply {
+    code: u32,
+    value: u32,
+}
+
+struct Known {
+    state: State,
+}
+
+static STATES: Mutex<Option<HashMap<usize, Known>>> = Mutex::new(None);
+
+fn no(code: u32) -> Reply {
+    Reply { code, value: 0 }
+}
+
+unsafe fn change(
+    memory: *mut u32,
+    memory_len: usize,
+    range: bool,
+    f: impl FnOnce(&mut State) -> Result<u32, u32>,
+) -> Reply {
+    let words = std::slice::from_raw_parts_mut(memory, memory_len);
+    if !opened_head(words) {
+        return no(6);
+    }
+    if !range {
+        return no(7);
+    }
+    let mut states = STATES.lock().unwrap();
+    let known = match states.as_mut().and_then(|s| s.get_mut(&(memory as usize))) {
+        Some(known) if known.state.opened.need <= memory_len => known,
+        _ => return no(8),
+    };
+    let image = known.state.image();
+    if words[..image.len()] != image[..] {
+        return no(8);
+    }
+    match f(&mut known.state) {
+        Err(code) => no(code),
+        Ok(value) => {
+            let image = known.state.image();
+            words[..image.len()].copy_from_slice(&image);
+            Reply { code: 0, value }
+        }
+    }
+}
+
+#[no_mangle]
+pub unsafe extern "C" fn hailtrellis_open(
+    map: *const u8,
+    map_len: usize,
+    memory: *mut u32,
+    memory_len: usize,
+    start: u32,
+) -> Reply {
+    let map = std::slice::from_raw_parts(map, map_len);
+    match State::open(map, memory_len, start) {
+        Err(code) => no(code),
+        Ok(state) => {
+            let words = std::slice::from_raw_parts_mut(memory, memory_len);
+            let image = state.image();
+            words[..image.len()].copy_from_slice(&image);
+            let mut states = STATES.lock().unwrap();
+            states
+                .get_or_insert_with(HashMap::new)
+                .insert(memory as usize, Known { state });
+            Reply {
+                code: 0,
+                value: start,
+            }
+        }
+    }
+}
+
+#[no_mangle]
+pub unsafe extern "C" fn hailtrellis_add(
+    memory: *mut u32,
+    memory_len: usize,
+    van: u32,
+    from: u32,
+    to: u32,
+    offset: u32,
+) -> Reply {
+    change(memory, memory_len, van < 1024, |s| s.add(van, from, to, offset))
+}
+
+#[no_mangle]
+pub unsafe extern "C" fn hailtrellis_move(
+    memory: *mut u32,
+    memory_len: usize,
+    van: u32,
+    from: u32,
+    to: u32,
+    offset: u32,
+) -> Reply {
+    change(memory, memory_len, van < 1024, |s| {
+        s.move_van(van, from, to, offset)
+    })
+}
+
+#[no_mangle]
+pub unsafe extern "C" fn hailtrellis_remove(
+    memory: *mut u32,
+    memory_len: usize,
+    van: u32,
+) -> Reply {
+    change(memory, memory_len, van < 1024, |s| s.remove(van))
+}
+
+#[no_mangle]
+pub unsafe extern "C" fn hailtrellis_claim(
+    memory: *mut u32,
+    memory_len: usize,
+    van: u32,
+    stamp: u32,
+    desk: u32,
+) -> Reply {
+    let range = van < 1024 && (1..=255).contains(&desk);
+    change(memory, memory_len, range, |s| s.claim(van, stamp, desk))
+}
+
+#[no_mangle]
+pub unsafe extern "C" fn hailtrellis_release(
+    memory: *mut u32,
+    memory_len: usize,
+    van: u32,
+    desk: u32,
+) -> Reply {
+    let range = van < 1024 && (1..=255).contains(&desk);
+    change(memory, memory_len, range, |s| s.release(van, desk))
+}
+
+#[no_mangle]
+pub unsafe extern "C" fn hailtrellis_question(
+    memory: *const u32,
+    memory_len: usize,
+    vertex: u32,
+    k: u32,
+    answer: *mut u32,
+    answer_len: usize,
+) -> Reply {
+    let words = std::slice::from_raw_parts(memory, memory_len);
+    if !opened_head(words) {
+        return no(6);
+    }
+    if vertex >= words[2] || k < 1 || k > 32 {
+        return no(7);
+    }
+    let mut states = STATES.lock().unwrap();
+    let known = match states.as_mut().and_then(|s| s.get_mut(&(memory as usize))) {
+        Some(known) if known.state.opened.need <= memory_len => known,
+        _ => return no(5),
+    };
+    if words[..known.state.opened.need] != known.state.image()[..] {
+        return no(5);
+    }
+    match known.state.question(vertex, k, answer_len) {
+        Err(code) => no(code),
+        Ok(list) => {
+            let answer = std::slice::from_raw_parts_mut(answer, answer_len);
+            for (i, row) in list.iter().enumerate() {
+                answer[3 * i..3 * i + 3].copy_from_slice(row);
+            }
+            Reply {
+                code: 0,
+                value: list.len() as u32,
+            }
+        }
+    }
+}
