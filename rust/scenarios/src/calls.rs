@@ -168,17 +168,27 @@ impl Habits {
         *dice.pick(&self.vans)
     }
 
-    /// A present van, free or held as asked for, if one is found soon.
+    /// A present van, free or held as asked for, if there is one.
     fn present(&self, dice: &mut Dice, state: &State, held: bool) -> u32 {
-        for _ in 0..20 {
-            let van = *dice.pick(&self.vans);
-            if let Some(known) = state.vans[van as usize] {
-                if (known.desk != 0) == held {
-                    return van;
-                }
-            }
+        let vans: Vec<u32> = (0..VANS as u32)
+            .filter(|&van| state.vans[van as usize].is_some_and(|v| (v.desk != 0) == held))
+            .collect();
+        match vans.is_empty() || dice.chance(self.wrong) {
+            true => self.van(dice),
+            false => *dice.pick(&vans),
         }
-        self.van(dice)
+    }
+
+    /// An absent van, if one is found soon.
+    fn absent(&self, dice: &mut Dice, state: &State) -> u32 {
+        let mut van = self.van(dice);
+        for _ in 0..8 {
+            if !state.vans.get(van as usize).is_some_and(Option::is_some) {
+                break;
+            }
+            van = self.van(dice);
+        }
+        van
     }
 
     fn desk(&self, dice: &mut Dice) -> u32 {
@@ -231,6 +241,17 @@ impl Habits {
     }
 }
 
+/// An add of an absent van, if one is found soon.
+pub fn random_add(dice: &mut Dice, habits: &Habits, state: &State) -> Call {
+    let (from, to, offset) = habits.place(dice, state);
+    Call::Add {
+        van: habits.absent(dice, state),
+        from,
+        to,
+        offset,
+    }
+}
+
 /// The next call of a run.
 pub fn random_call(dice: &mut Dice, habits: &Habits, state: &State, map_bytes: usize) -> Call {
     if dice.chance(habits.questions) {
@@ -271,16 +292,7 @@ pub fn random_call(dice: &mut Dice, habits: &Habits, state: &State, map_bytes: u
     let (from, to, offset) = habits.place(dice, state);
     match dice.below(10) {
         0..4 if dice.chance(habits.growth) => {
-            let mut van = habits.van(dice);
-            for _ in 0..5 {
-                if state
-                    .vans
-                    .get(van as usize)
-                    .is_some_and(|van| van.is_some())
-                {
-                    van = habits.van(dice);
-                }
-            }
+            let van = habits.absent(dice, state);
             Call::Add {
                 van,
                 from,

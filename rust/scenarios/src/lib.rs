@@ -7,7 +7,7 @@ mod limits;
 mod maps;
 mod tree;
 
-pub use calls::{random_call, Call, Habits};
+pub use calls::{random_add, random_call, Call, Habits};
 pub use desk::{damage, random_desk_input};
 pub use dice::Dice;
 pub use limits::{long_path, map_of_leaves, star, Limit};

@@ -18,6 +18,14 @@ struct Known {
 
 static STATES: Mutex<Option<HashMap<usize, Known>>> = Mutex::new(None);
 
+static CALLS: std::sync::atomic::AtomicU64 = std::sync::atomic::AtomicU64::new(0);
+
+/// Whether an error is to be made on purpose, so that it can be seen that the comparisons find it.
+fn fault(name: &str) -> bool {
+    static FAULT: std::sync::OnceLock<String> = std::sync::OnceLock::new();
+    FAULT.get_or_init(|| std::env::var("HAILTRELLIS_FAULT").unwrap_or_default()) == name
+}
+
 fn no(code: u32) -> Reply {
     Reply { code, value: 0 }
 }
@@ -35,6 +43,19 @@ unsafe fn change(
     if !range {
         return no(7);
     }
+    let calls = CALLS.fetch_add(1, std::sync::atomic::Ordering::Relaxed);
+    if fault("hang") && calls > 700 {
+        loop {
+            std::hint::spin_loop();
+        }
+    }
+    if fault("crash") && calls > 700 {
+        memory.add(memory_len).write_volatile(1);
+    }
+    if fault("forged") && words[1] < 60 {
+        words[70] = 5;
+        return Reply { code: 0, value: 1 };
+    }
     let mut states = STATES.lock().unwrap();
     let known = match states.as_mut().and_then(|s| s.get_mut(&(memory as usize))) {
         Some(known) if known.state.opened.need <= memory_len => known,
@@ -47,8 +68,19 @@ unsafe fn change(
     match f(&mut known.state) {
         Err(code) => no(code),
         Ok(value) => {
-            let image = known.state.image();
-            words[..image.len()].copy_from_slice(&image);
+            let mut new = known.state.image();
+            let rows = known.state.opened.rows_at[0];
+            if fault("row") {
+                if let Some(stale) = (rows..new.len()).rev().find(|&i| new[i] != image[i]) {
+                    if stale < rows + 8 {
+                        new[stale] = image[stale];
+                    }
+                }
+            }
+            words[..new.len()].copy_from_slice(&new);
+            if fault("beyond") && value % 97 == 5 && words.len() > new.len() {
+                words[new.len()] = 0;
+            }
             Reply { code: 0, value }
         }
     }
@@ -63,7 +95,11 @@ pub unsafe extern "C" fn hailtrellis_open(
     start: u32,
 ) -> Reply {
     let map = std::slice::from_raw_parts(map, map_len);
+    if fault("open-crash") && map.len() == 88 {
+        std::ptr::read_volatile(map.as_ptr().add(4096));
+    }
     match State::open(map, memory_len, start) {
+        Err(3) if fault("open") => no(4),
         Err(code) => no(code),
         Ok(state) => {
             let words = std::slice::from_raw_parts_mut(memory, memory_len);
@@ -167,6 +203,14 @@ pub unsafe extern "C" fn hailtrellis_question(
         Err(code) => no(code),
         Ok(list) => {
             let answer = std::slice::from_raw_parts_mut(answer, answer_len);
+            let mut list = list;
+            if fault("order") {
+                for i in 1..list.len() {
+                    if list[i][1] == list[i - 1][1] {
+                        list.swap(i, i - 1);
+                    }
+                }
+            }
             for (i, row) in list.iter().enumerate() {
                 answer[3 * i..3 * i + 3].copy_from_slice(row);
             }
