@@ -15,4 +15,10 @@ fn main() {
     println!("cargo:rustc-link-lib=static:-bundle=hailtrellis_c");
     let archive = directory.join("libhailtrellis_c.a");
     println!("cargo:rerun-if-changed={}", archive.display());
+    if !archive.exists() {
+        println!(
+            "cargo:warning={} is not there; `rt staticlib hailtrellis_c` makes it",
+            archive.display()
+        );
+    }
 }

@@ -51,7 +51,7 @@ fn hex(bytes: impl Iterator<Item = u8>) -> String {
 }
 
 fn bytes(hex: &str) -> Result<Vec<u8>, String> {
-    if hex.len() % 2 != 0 || !hex.is_ascii() {
+    if !hex.len().is_multiple_of(2) || !hex.is_ascii() {
         return Err("no bytes".to_string());
     }
     (0..hex.len() / 2)

@@ -5,7 +5,8 @@ use crate::core;
 use crate::guarded::{Guard, Guarded};
 use crate::pair::{blank, reply};
 use crate::tally::Tally;
-use reference::State;
+use crate::watch;
+use reference::{OpenedMap, State};
 use scenarios::{damage, random_map, Dice, Size};
 
 /// Opens bytes on a memory of so many words in both; how they differ.
@@ -20,6 +21,13 @@ fn compare(
     }
     let words = memory.len();
     let right = State::open(map, words, start);
+    let needed = OpenedMap::open(map).map(|opened| opened.need);
+    let counted = watch::call(|| hailtrellis::need(map)).map_err(|refusal| refusal.number());
+    if counted != needed {
+        return Err(format!(
+            "the wrapper's need is {counted:?}, should be {needed:?}"
+        ));
+    }
     let guarded = Guarded::copy_of(map, Guard::AtEnd);
     let given = core::open(&guarded, memory, start);
     tally.count(given.code);

@@ -14,8 +14,15 @@ fn stored_directory() -> PathBuf {
     Path::new(env!("CARGO_MANIFEST_DIR")).join("../desk_ref/stored")
 }
 
-/// What the program prints for an input that comes in pieces.
-fn run(program: &Path, input: &[u8], dice: &mut Dice) -> std::io::Result<(bool, Vec<u8>)> {
+/// How long a program may take for an input.
+const LIMIT: Duration = Duration::from_secs(60);
+
+/// What the program prints for an input that comes in pieces, and how it ended if that was not well.
+fn run(
+    program: &Path,
+    input: &[u8],
+    dice: &mut Dice,
+) -> std::io::Result<(Option<String>, Vec<u8>)> {
     let mut child = Command::new(program)
         .stdin(Stdio::piped())
         .stdout(Stdio::piped())
@@ -27,8 +34,7 @@ fn run(program: &Path, input: &[u8], dice: &mut Dice) -> std::io::Result<(bool, 
         true => piece.max(4_000),
         false => piece,
     };
-    let mut printed = Vec::new();
-    thread::scope(|scope| -> std::io::Result<()> {
+    thread::scope(|scope| {
         scope.spawn(move || {
             for part in input.chunks(piece.min(input.len().max(1))) {
                 // A program that has said `end` need not read on.
@@ -37,32 +43,54 @@ fn run(program: &Path, input: &[u8], dice: &mut Dice) -> std::io::Result<(bool, 
                 }
             }
         });
-        stdout.read_to_end(&mut printed)?;
-        Ok(())
-    })?;
-    let status = child.wait()?;
-    Ok((status.success(), printed))
+        let reader = scope.spawn(move || {
+            let mut printed = Vec::new();
+            stdout.read_to_end(&mut printed).map(|_| printed)
+        });
+        let begun = Instant::now();
+        let mut late = false;
+        let status = loop {
+            match child.try_wait()? {
+                Some(status) => break status,
+                None if begun.elapsed() > LIMIT => {
+                    late = true;
+                    child.kill()?;
+                }
+                None => thread::sleep(Duration::from_micros(300)),
+            }
+        };
+        let printed = reader.join().expect("reading does not panic")?;
+        let ended = match (late, status.success()) {
+            (true, _) => Some(format!("it did not end within {} s", LIMIT.as_secs())),
+            (false, true) => None,
+            (false, false) => Some(format!("it ended with {status}")),
+        };
+        Ok((ended, printed))
+    })
 }
 
 /// Compares one input; no for a difference, whose input is then written out.
 fn same(program: &Path, name: &str, input: &[u8], dice: &mut Dice) -> std::io::Result<bool> {
     let right = transcript(input);
-    let (ended_well, printed) = run(program, input, dice)?;
-    if ended_well && printed == right.as_bytes() {
+    let (ended, printed) = run(program, input, dice)?;
+    if ended.is_none() && printed == right.as_bytes() {
         return Ok(true);
     }
     println!("FAILED: {name}");
-    if !ended_well {
-        println!("the program did not end well");
+    if let Some(how) = ended {
+        println!("{how}");
     }
     let printed = String::from_utf8_lossy(&printed);
-    let mut theirs = printed.lines();
-    for (place, line) in right.lines().enumerate() {
-        let given = theirs.next();
-        if given != Some(line) {
-            println!("line {place} is {given:?}, should be {line:?}");
-            break;
-        }
+    let given: Vec<&str> = printed.lines().collect();
+    let wanted: Vec<&str> = right.lines().collect();
+    let lines = given.len().max(wanted.len());
+    if let Some(place) = (0..lines).find(|&i| given.get(i) != wanted.get(i)) {
+        println!(
+            "line {} is {:?}, should be {:?}",
+            place + 1,
+            given.get(place),
+            wanted.get(place)
+        );
     }
     let directory = Path::new("target").join("compare-failed");
     let file = directory.join(format!("desk-{name}.in"));

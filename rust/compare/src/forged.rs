@@ -119,9 +119,9 @@ fn forged_words(dice: &mut Dice) -> Vec<u32> {
             }
         }
         4 => {
-            for place in 64..used {
+            for word in &mut words[64..used] {
                 if dice.chance(20) {
-                    words[place] = wild(dice, used);
+                    *word = wild(dice, used);
                 }
             }
         }

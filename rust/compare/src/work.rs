@@ -73,10 +73,10 @@ impl Kind {
 /// The run of a seed, for the kinds that run calls on a sound map.
 fn plan(kind: Kind, seed: u64) -> genuine::Plan {
     match kind {
-        Kind::Small if seed % 3 == 0 => genuine::plan(seed, Size::TINY, 150),
+        Kind::Small if seed.is_multiple_of(3) => genuine::plan(seed, Size::TINY, 150),
         Kind::Small => genuine::plan(seed, Size::SMALL, 300),
         Kind::Middle => genuine::plan(seed, Size::MIDDLE, 200),
-        _ => genuine::plan_at_limit(seed, 150),
+        _ => genuine::plan_at_limit(seed, 300),
     }
 }
 

@@ -66,7 +66,9 @@ pub fn judge(bytes: &[u8]) -> Result<Map, u32> {
     let vertices = counts[0] as usize;
     let roads = counts[1] as usize;
     let parts = counts[2] as usize;
-    if vertices < 1 || vertices > VERTICES || roads > ROADS || parts < 1 || parts > PARTS {
+    let within =
+        (1..=VERTICES).contains(&vertices) && roads <= ROADS && (1..=PARTS).contains(&parts);
+    if !within {
         return Err(2);
     }
     let parents = halves(records.take(2, 2 + 2 * parts)?);
@@ -167,8 +169,8 @@ impl Map {
     /// For each part the vertices that stand in it or below it, as a yes or no for each vertex.
     pub fn holds(&self) -> Vec<Vec<bool>> {
         let mut holds = vec![vec![false; self.vertices()]; self.parts()];
-        for vertex in 0..self.vertices() {
-            let mut part = self.leaves[vertex] as usize;
+        for (vertex, &leaf) in self.leaves.iter().enumerate() {
+            let mut part = leaf as usize;
             holds[part][vertex] = true;
             while part != 0 {
                 part = self.parents[part] as usize;
@@ -183,15 +185,15 @@ impl Map {
     pub fn borders(&self) -> Vec<Vec<usize>> {
         let holds = self.holds();
         let mut is_border = vec![vec![false; self.vertices()]; self.parts()];
-        for child in 1..self.parts() {
+        for (child, held) in holds.iter().enumerate().skip(1) {
             let parent = self.parents[child] as usize;
             for road in &self.roads {
                 let from = road.from as usize;
                 let to = road.to as usize;
-                if holds[child][from] && !holds[child][to] {
+                if held[from] && !held[to] {
                     is_border[parent][from] = true;
                 }
-                if holds[child][to] && !holds[child][from] {
+                if held[to] && !held[from] {
                     is_border[parent][to] = true;
                 }
             }

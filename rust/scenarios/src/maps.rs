@@ -229,7 +229,7 @@ pub fn random_map(dice: &mut Dice, size: Size) -> Map {
             draft.add(order[place], to, weights.draw(dice));
         }
     }
-    let density = *dice.pick(&[0, 50, 100, 200, 300, 400]);
+    let density = *dice.pick(&[5, 50, 100, 150, 200, 200, 300, 400]);
     let wanted = (vertices * density / 100).min(size.roads);
     let both_ways = *dice.pick(&[0, 20, 50, 100]);
     let same_both_ways = dice.chance(50);

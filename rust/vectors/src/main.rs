@@ -10,10 +10,19 @@
 //! refusal written down where it is built; the reference must agree.
 //!
 //! `vectors desk DIRECTORY` writes inputs of the desk program as `NAME.in` with what it prints as `NAME.out`.
+//!
+//! `vectors runs DIRECTORY` writes runs of calls: `runs.pack` in the same form, in turn a map and the records of the desk program that
+//! follow it (the opening record and the calls), and for the runs, counted from 0,
+//!
+//! - `runs.tables`: `RUN PART DISTANCE ..`, a line for each part with the words of its table;
+//! - `runs.answers`: `RUN LINE`, the lines that the desk program would print;
+//! - `runs.rows`: `RUN PLACE VERTEX:DISTANCE ..`, after the opening (place 0) and after each accepted change the rows of all parts in
+//!   the order of the memory.
 
 mod build;
 mod desk;
 mod groups;
+mod runs;
 
 use reference::OpenedMap;
 use std::fmt::Write;
@@ -33,36 +42,53 @@ pub struct Vector {
 fn main() -> std::io::Result<()> {
     let arguments: Vec<String> = std::env::args().skip(1).collect();
     match arguments.as_slice() {
-        [directory] if directory != "desk" => write_maps(Path::new(directory)),
-        [desk, directory] if desk == "desk" => write_desk(Path::new(directory)),
-        _ => Err(std::io::Error::other("usage: vectors [desk] DIRECTORY")),
+        [directory] => write_all(Path::new(directory), &maps()),
+        [kind, directory] if kind == "desk" => write_all(Path::new(directory), &desk_inputs()),
+        [kind, directory] if kind == "runs" => write_all(Path::new(directory), &runs::files()),
+        _ => Err(std::io::Error::other(
+            "usage: vectors [desk | runs] DIRECTORY",
+        )),
     }
 }
 
-/// Writes all groups of maps.
-fn write_maps(directory: &Path) -> std::io::Result<()> {
+/// Files by name.
+pub type Files = Vec<(String, Vec<u8>)>;
+
+/// Writes files to a directory.
+fn write_all(directory: &Path, files: &Files) -> std::io::Result<()> {
     fs::create_dir_all(directory)?;
+    for (name, bytes) in files {
+        fs::write(directory.join(name), bytes)?;
+    }
+    let bytes: usize = files.iter().map(|(_, bytes)| bytes.len()).sum();
+    println!("{} files, {bytes} bytes", files.len());
+    Ok(())
+}
+
+/// Adds an item to a pack.
+pub fn pack(items: &mut Vec<u8>, item: &[u8]) {
+    items.extend((item.len() as u32).to_le_bytes());
+    items.extend(item);
+}
+
+/// The files of all groups of maps.
+fn maps() -> Files {
+    let mut files = Files::new();
     let mut contents = String::new();
-    let mut bytes = 0;
-    let mut maps = 0;
     for (group, vectors) in groups::all() {
-        let mut pack = Vec::new();
+        let mut items = Vec::new();
         let mut expected = String::new();
         for (index, vector) in vectors.iter().enumerate() {
-            pack.extend((vector.bytes.len() as u32).to_le_bytes());
-            pack.extend(&vector.bytes);
+            pack(&mut items, &vector.bytes);
             let answer = answer(vector);
             writeln!(expected, "{group} {index} {answer}").unwrap();
             writeln!(contents, "{group} {index} {}", vector.what).unwrap();
         }
-        bytes += pack.len();
-        maps += vectors.len();
-        fs::write(directory.join(format!("{group}.pack")), pack)?;
-        fs::write(directory.join(format!("{group}.expected")), expected)?;
+        files.push((format!("{group}.pack"), items));
+        files.push((format!("{group}.expected"), expected.into_bytes()));
     }
-    fs::write(directory.join("contents.txt"), contents)?;
-    println!("{maps} maps, {bytes} bytes");
-    Ok(())
+    files.push(("contents.txt".to_string(), contents.into_bytes()));
+    files
 }
 
 /// The reference's answer, which must be the one known from how the map was built.
@@ -85,17 +111,48 @@ fn answer(vector: &Vector) -> String {
     }
 }
 
-/// Writes all inputs of the desk program.
-fn write_desk(directory: &Path) -> std::io::Result<()> {
-    fs::create_dir_all(directory)?;
-    let inputs = desk::all();
-    for (name, input) in &inputs {
-        fs::write(directory.join(format!("{name}.in")), input)?;
-        fs::write(
-            directory.join(format!("{name}.out")),
-            desk_ref::transcript(input),
-        )?;
+/// The files of all inputs of the desk program.
+fn desk_inputs() -> Files {
+    let mut files = Files::new();
+    for (name, input) in desk::all() {
+        let lines = desk_ref::transcript(&input).into_bytes();
+        files.push((format!("{name}.in"), input));
+        files.push((format!("{name}.out"), lines));
     }
-    println!("{} inputs", inputs.len());
-    Ok(())
+    files
+}
+
+#[cfg(test)]
+mod tests {
+    use super::*;
+
+    /// Whether a directory of the repository holds these files as they are.
+    fn stored(directory: &str, files: &Files) {
+        let directory = Path::new(env!("CARGO_MANIFEST_DIR")).join(directory);
+        for (name, bytes) in files {
+            let kept = fs::read(directory.join(name)).unwrap();
+            assert!(kept == *bytes, "{name} is out of date");
+        }
+    }
+
+    #[test]
+    fn what_is_stored_is_what_is_written() {
+        stored("../../crates/judge_vectors/data", &maps());
+        stored("../desk_ref/stored", &desk_inputs());
+    }
+
+    #[test]
+    fn the_runs_have_changes_and_lists() {
+        let files = runs::files();
+        let rows = String::from_utf8(files[3].1.clone()).unwrap();
+        assert!(rows.lines().count() > 250);
+        let answers = String::from_utf8(files[2].1.clone()).unwrap();
+        assert!(
+            answers
+                .lines()
+                .filter(|line| line.contains(" list "))
+                .count()
+                > 50
+        );
+    }
 }
