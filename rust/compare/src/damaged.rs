@@ -6,7 +6,7 @@ use crate::guarded::{Guard, Guarded};
 use crate::pair::{blank, reply};
 use crate::tally::Tally;
 use crate::watch;
-use reference::{OpenedMap, State};
+use reference::State;
 use scenarios::{damage, random_map, Dice, Size};
 
 /// Opens bytes on a memory of so many words in both; how they differ.
@@ -21,7 +21,7 @@ fn compare(
     }
     let words = memory.len();
     let right = State::open(map, words, start);
-    let needed = OpenedMap::open(map).map(|opened| opened.need);
+    let needed = reference::judge(map).map(|map| reference::need(&map));
     let counted = watch::call(|| hailtrellis::need(map)).map_err(|refusal| refusal.number());
     if counted != needed {
         return Err(format!(
@@ -65,7 +65,7 @@ pub fn cases(seed: u64) -> Vec<Case> {
         _ => (random_map(&mut dice, Size::TINY), 600),
     };
     let bytes = map.bytes();
-    let need = reference::OpenedMap::of(map).need;
+    let need = reference::need(&map);
     let start = dice.word();
     let case = |map: Vec<u8>, words| Case {
         ground: Ground::AnyMap { map, start, words },

@@ -96,8 +96,20 @@ fn spoil_links(dice: &mut Dice, words: &mut [u32], state: &State) {
     }
 }
 
+/// A vast memory with every count at its limit, its words all small, so that most of them lead somewhere.
+fn vast_words(dice: &mut Dice) -> Vec<u32> {
+    let length = dice.from_to(100_000, 600_000);
+    let below = *dice.pick(&[2, 40, 600, 5_000, length]);
+    let mut words: Vec<u32> = (0..length).map(|_| dice.below(below) as u32).collect();
+    words[..5].copy_from_slice(&[reference::HEAD_WORD, length as u32, 4_096, 16_384, 512]);
+    words
+}
+
 /// The words of a forged memory: an opened head over anything.
 fn forged_words(dice: &mut Dice) -> Vec<u32> {
+    if dice.chance(3) {
+        return vast_words(dice);
+    }
     let state = random_state(dice);
     let mut words = state.image();
     let used = words.len();

@@ -35,11 +35,13 @@ pub fn plan(seed: u64, size: Size, calls: usize) -> Plan {
     plan_on(dice, map, calls)
 }
 
-/// The run of a seed on a map at a limit.
+/// The run of a seed on a map at a limit, or of any size.
 pub fn plan_at_limit(seed: u64, calls: usize) -> Plan {
     let mut dice = Dice::new(seed);
-    let limit = Limit::ALL[(seed % Limit::ALL.len() as u64) as usize];
-    let map = limit.map(&mut dice);
+    let map = match Limit::ALL.get((seed % 4) as usize) {
+        Some(limit) => limit.map(&mut dice),
+        None => random_map(&mut dice, Size::FULL),
+    };
     plan_on(dice, map, calls)
 }
 

@@ -6,6 +6,7 @@
 //! It shares no code with the core, so a difference between the two is an error in one of them.
 //!
 //! - [`judge`] takes a map's bytes to a [`Map`] or a refusal 1 to 4, in the order of the scope.
+//! - [`need`] is how many words of memory a sound map needs.
 //! - [`OpenedMap`] is a map with its distances, its row vertices and the places of its words.
 //! - [`State`] is an opened map with a fleet: the five changes and the question, with their refusals.
 //! - [`State::image`] is the whole memory that an opening and the calls after it leave, as words.
@@ -28,7 +29,7 @@ mod state;
 pub use distances::Distances;
 pub use image::{opened_head, HEAD_WORD};
 pub use map::{judge, small_map, Map, Road};
-pub use opened::OpenedMap;
+pub use opened::{need, OpenedMap};
 pub use state::{State, Van};
 
 /// The vertex that an empty row shows, and the parent that the root has.

@@ -21,6 +21,18 @@ pub struct OpenedMap {
     pub need: usize,
 }
 
+/// The words of memory that a sound map needs: 64 + 8 × (parts + vertices) + 4 × roads + 8 × 1,024 + D + 4 × R, where D is the
+/// sum of squares of all leaf sizes and of all border counts of the other parts, and R the sum of these sizes and counts.
+pub fn need(map: &Map) -> usize {
+    let row_vertices = map.row_vertices();
+    let squares: usize = row_vertices
+        .iter()
+        .map(|rows| rows.len() * rows.len())
+        .sum();
+    let rows: usize = row_vertices.iter().map(|rows| rows.len()).sum();
+    64 + 8 * (map.parts() + map.vertices()) + 4 * map.roads.len() + 8 * VANS + squares + 4 * rows
+}
+
 impl OpenedMap {
     /// Judges a map's bytes and works out all that follows from a sound one; otherwise the refusal 1 to 4.
     pub fn open(bytes: &[u8]) -> Result<OpenedMap, u32> {
@@ -40,7 +52,6 @@ impl OpenedMap {
             .iter()
             .map(|rows| rows.len() * rows.len())
             .sum();
-        let rows: usize = row_vertices.iter().map(|rows| rows.len()).sum();
         let mut table_at = Vec::new();
         let mut rows_at = Vec::new();
         let mut table = tables;
@@ -57,7 +68,7 @@ impl OpenedMap {
             vertices_in,
             table_at,
             rows_at,
-            need: tables + squares + 4 * rows,
+            need: need(&map),
             map,
         }
     }

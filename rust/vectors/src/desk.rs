@@ -134,13 +134,13 @@ fn map_with_need(need: usize) -> Map {
         sizes.push(1);
     }
     let mut map = map_of_leaves(&sizes);
-    let missing = need - reference::OpenedMap::of(map.clone()).need;
+    let missing = need - reference::need(&map);
     map.roads = (0..32)
         .flat_map(|from| (0..32).map(move |to| road(from, to, 1)))
         .filter(|road| road.from != road.to)
         .take(missing / 4)
         .collect();
-    assert_eq!(reference::OpenedMap::of(map.clone()).need, need);
+    assert_eq!(reference::need(&map), need);
     map
 }
 

@@ -24,7 +24,7 @@ mod desk;
 mod groups;
 mod runs;
 
-use reference::OpenedMap;
+use reference::{judge, need};
 use std::fmt::Write;
 use std::fs;
 use std::path::Path;
@@ -93,20 +93,17 @@ fn maps() -> Files {
 
 /// The reference's answer, which must be the one known from how the map was built.
 fn answer(vector: &Vector) -> String {
-    let opened = OpenedMap::open(&vector.bytes);
+    let judged = judge(&vector.bytes);
     if let Some(known) = vector.known {
-        let given = opened.as_ref().err().copied().unwrap_or(0);
+        let given = judged.as_ref().err().copied().unwrap_or(0);
         assert_eq!(given, known, "{}", vector.what);
     }
-    match opened {
+    match judged {
         Err(refusal) => format!("refused {refusal}"),
-        Ok(opened) => {
-            let map = &opened.map;
+        Ok(map) => {
             let counts = (map.vertices(), map.roads.len(), map.parts());
-            format!(
-                "sound {} {} {} {}",
-                counts.0, counts.1, counts.2, opened.need
-            )
+            let need = need(&map);
+            format!("sound {} {} {} {need}", counts.0, counts.1, counts.2)
         }
     }
 }
