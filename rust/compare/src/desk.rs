@@ -14,6 +14,8 @@ fn stored_directory() -> PathBuf {
     Path::new(env!("CARGO_MANIFEST_DIR")).join("../desk_ref/stored")
 }
 
+/// How many random inputs there are at least.
+const LEAST_RANDOM: u64 = 200;
 /// How long a program may take for an input.
 const LIMIT: Duration = Duration::from_secs(60);
 
@@ -129,7 +131,8 @@ fn large() -> Vec<(&'static str, Vec<u8>)> {
     ]
 }
 
-/// Compares a desk program with the reference's for so long. Yes if nothing differs.
+/// Compares a desk program with the reference's for so long, on all stored and large inputs and some random ones at least.
+/// Yes if nothing differs.
 pub fn all(program: &Path, base: u64, time: Duration) -> std::io::Result<bool> {
     println!("seed {base}");
     let begun = Instant::now();
@@ -161,9 +164,11 @@ pub fn all(program: &Path, base: u64, time: Duration) -> std::io::Result<bool> {
         }
         inputs += 1;
     }
-    let mut seed = base;
-    while begun.elapsed() < time {
-        seed = seed.wrapping_add(1);
+    for number in 1.. {
+        if number > LEAST_RANDOM && begun.elapsed() >= time {
+            break;
+        }
+        let seed = base.wrapping_add(number);
         let mut dice = Dice::new(seed);
         let size = *dice.pick(&[Size::TINY, Size::SMALL, Size::SMALL, Size::MIDDLE]);
         let map = random_map(&mut dice, size);

@@ -42,16 +42,10 @@ fn random_state(dice: &mut Dice) -> State {
     habits.growth = 90;
     let mut state = State::fresh(Arc::new(OpenedMap::of(map)), dice.word());
     for _ in 0..*dice.pick(&[0, 20, 200, 2_000]) {
-        let _ = match random_call(dice, &habits, &state, 1) {
-            Call::Add {
-                van,
-                from,
-                to,
-                offset,
-            } => state.add(van, from, to, offset),
-            Call::Claim { van, stamp, desk } => state.claim(van, stamp, desk),
-            _ => Ok(0),
-        };
+        let call = random_call(dice, &habits, &state, 1);
+        if matches!(call, Call::Add { .. } | Call::Claim { .. }) {
+            let _ = call.change(&mut state);
+        }
     }
     state
 }

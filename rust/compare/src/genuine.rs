@@ -164,24 +164,7 @@ fn make(state: &mut State, step: Step, map: &[u8], words: usize) {
     if lent < state.opened.need {
         return;
     }
-    let _ = match step.call {
-        Call::Add {
-            van,
-            from,
-            to,
-            offset,
-        } => state.add(van, from, to, offset),
-        Call::Move {
-            van,
-            from,
-            to,
-            offset,
-        } => state.move_van(van, from, to, offset),
-        Call::Remove { van } => state.remove(van),
-        Call::Claim { van, stamp, desk } => state.claim(van, stamp, desk),
-        Call::Release { van, desk } => state.release(van, desk),
-        _ => Ok(0),
-    };
+    let _ = step.call.change(state);
 }
 
 /// Goes through a case of a map and its steps in both; the place and kind of the first difference.

@@ -118,24 +118,7 @@ impl Pair {
         let answered = if !opened_head(&self.expected[..lent]) {
             Err(6)
         } else {
-            match call {
-                Call::Add {
-                    van,
-                    from,
-                    to,
-                    offset,
-                } => self.state.add(van, from, to, offset),
-                Call::Move {
-                    van,
-                    from,
-                    to,
-                    offset,
-                } => self.state.move_van(van, from, to, offset),
-                Call::Remove { van } => self.state.remove(van),
-                Call::Claim { van, stamp, desk } => self.state.claim(van, stamp, desk),
-                Call::Release { van, desk } => self.state.release(van, desk),
-                _ => unreachable!("a change"),
-            }
+            call.change(&mut self.state).expect("a change")
         };
         let given = core::call(call, &mut self.memory[..lent], &mut []);
         self.same_reply(given, reply(answered))?;

@@ -97,16 +97,14 @@ fn run(mut state: State, mut rest: &[u8], lines: &mut String) {
 
 /// Makes one call and writes its lines.
 fn answer(state: &mut State, call: Call, place: u64, lines: &mut String) {
-    let stamp = match call {
-        Call::Add(van, from, to, offset) => state.add(van as u32, from as u32, to as u32, offset),
-        Call::Move(van, from, to, offset) => {
-            state.move_van(van as u32, from as u32, to as u32, offset)
+    let refusal = match (call, call.change(state)) {
+        (_, Some(Ok(stamp))) => {
+            writeln!(lines, "{place} ok {stamp}").unwrap();
+            return;
         }
-        Call::Remove(van) => state.remove(van as u32),
-        Call::Claim(van, stamp, desk) => state.claim(van as u32, stamp, desk as u32),
-        Call::Release(van, desk) => state.release(van as u32, desk as u32),
-        Call::Question(vertex, k) => match state.question(vertex as u32, k as u32, 96) {
-            Err(refusal) => Err(refusal),
+        (_, Some(Err(refusal))) => refusal,
+        (Call::Question(vertex, k), _) => match state.question(vertex as u32, k as u32, 96) {
+            Err(refusal) => refusal,
             Ok(list) => {
                 writeln!(lines, "{place} list {}", list.len()).unwrap();
                 for [van, distance, stamp] in list {
@@ -115,9 +113,7 @@ fn answer(state: &mut State, call: Call, place: u64, lines: &mut String) {
                 return;
             }
         },
+        _ => unreachable!("a call is a change or a question"),
     };
-    match stamp {
-        Ok(stamp) => writeln!(lines, "{place} ok {stamp}").unwrap(),
-        Err(refusal) => writeln!(lines, "{place} no {refusal}").unwrap(),
-    }
+    writeln!(lines, "{place} no {refusal}").unwrap();
 }

@@ -1,5 +1,7 @@
 //! The records of the desk program's input: reading one, and writing them for tests and comparisons.
 
+use reference::State;
+
 /// A call that a record of kind 16 to 21 gives, with the numbers of its body in their widths.
 #[derive(Clone, Copy, Debug, PartialEq, Eq)]
 pub enum Call {
@@ -62,6 +64,19 @@ impl Call {
             (21, 4) => Some(Call::Question(two(body, 0), two(body, 2))),
             _ => None,
         }
+    }
+
+    /// Makes a change in the reference: its stamp or its refusal; nothing for a question.
+    pub fn change(&self, state: &mut State) -> Option<Result<u32, u32>> {
+        let n = |number: u16| number as u32;
+        Some(match *self {
+            Call::Add(van, from, to, offset) => state.add(n(van), n(from), n(to), offset),
+            Call::Move(van, from, to, offset) => state.move_van(n(van), n(from), n(to), offset),
+            Call::Remove(van) => state.remove(n(van)),
+            Call::Claim(van, stamp, desk) => state.claim(n(van), stamp, desk as u32),
+            Call::Release(van, desk) => state.release(n(van), desk as u32),
+            Call::Question(..) => return None,
+        })
     }
 
     /// The bytes of the call's record.

@@ -40,6 +40,30 @@ pub enum Call {
     },
 }
 
+impl Call {
+    /// Makes a change in the reference: its stamp or its refusal; nothing for an opening or a question.
+    pub fn change(self, state: &mut State) -> Option<Result<u32, u32>> {
+        match self {
+            Call::Open { .. } | Call::OpenDamaged { .. } | Call::Question { .. } => None,
+            Call::Add {
+                van,
+                from,
+                to,
+                offset,
+            } => Some(state.add(van, from, to, offset)),
+            Call::Move {
+                van,
+                from,
+                to,
+                offset,
+            } => Some(state.move_van(van, from, to, offset)),
+            Call::Remove { van } => Some(state.remove(van)),
+            Call::Claim { van, stamp, desk } => Some(state.claim(van, stamp, desk)),
+            Call::Release { van, desk } => Some(state.release(van, desk)),
+        }
+    }
+}
+
 impl fmt::Display for Call {
     fn fmt(&self, f: &mut fmt::Formatter<'_>) -> fmt::Result {
         match *self {

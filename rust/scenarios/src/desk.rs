@@ -30,28 +30,6 @@ fn record(call: Call) -> Option<Record> {
     })
 }
 
-/// Makes a call, so that the next one can follow from it.
-fn make(state: &mut State, call: Call) {
-    let _ = match call {
-        Call::Add {
-            van,
-            from,
-            to,
-            offset,
-        } => state.add(van, from, to, offset),
-        Call::Move {
-            van,
-            from,
-            to,
-            offset,
-        } => state.move_van(van, from, to, offset),
-        Call::Remove { van } => state.remove(van),
-        Call::Claim { van, stamp, desk } => state.claim(van, stamp, desk),
-        Call::Release { van, desk } => state.release(van, desk),
-        Call::Open { .. } | Call::OpenDamaged { .. } | Call::Question { .. } => Ok(0),
-    };
-}
-
 /// A sound map, an opening record and so many random calls.
 pub fn random_desk_input(dice: &mut Dice, map: &Map, count: usize) -> Vec<u8> {
     let mut input = map.bytes();
@@ -66,7 +44,7 @@ pub fn random_desk_input(dice: &mut Dice, map: &Map, count: usize) -> Vec<u8> {
     while records.len() < count {
         let call = random_call(dice, &habits, &state, input.len());
         if let Some(record) = record(call) {
-            make(&mut state, call);
+            let _ = call.change(&mut state);
             records.push(record);
         }
     }

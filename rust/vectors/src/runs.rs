@@ -42,7 +42,7 @@ pub fn files() -> Files {
         write_tables(run, &state, &mut tables);
         write_rows(run, 0, &state, &mut rows);
         for (place, call) in calls_of(&records[10..]).into_iter().enumerate() {
-            if make(&mut state, call) {
+            if call.change(&mut state).is_some_and(|answer| answer.is_ok()) {
                 write_rows(run, place + 1, &state, &mut rows);
             }
         }
@@ -66,20 +66,6 @@ fn calls_of(mut records: &[u8]) -> Vec<Call> {
         records = &records[4 + length..];
     }
     calls
-}
-
-/// Makes a call; yes if it is an accepted change.
-fn make(state: &mut State, call: Call) -> bool {
-    let n = |number: u16| number as u32;
-    match call {
-        Call::Add(van, from, to, offset) => state.add(n(van), n(from), n(to), offset),
-        Call::Move(van, from, to, offset) => state.move_van(n(van), n(from), n(to), offset),
-        Call::Remove(van) => state.remove(n(van)),
-        Call::Claim(van, stamp, desk) => state.claim(n(van), stamp, desk as u32),
-        Call::Release(van, desk) => state.release(n(van), desk as u32),
-        Call::Question(..) => return false,
-    }
-    .is_ok()
 }
 
 fn write_tables(run: usize, state: &State, text: &mut String) {
