@@ -70,6 +70,26 @@ unsafe fn change(
         Ok(value) => {
             let mut new = known.state.image();
             let rows = known.state.opened.rows_at[0];
+            if fault("two-vans") {
+                let gone =
+                    (0..1024).find(|&v| known.state.vans[v].is_some_and(|v| v.stamp == value));
+                if let Some(van) = gone.and_then(|v| known.state.vans[v]) {
+                    if van.desk != 0 {
+                        let mut less = known.state.clone();
+                        let head = less.head(&van);
+                        for other in less.free_vans_to(head) {
+                            less.vans[other] = None;
+                        }
+                        new[rows..].copy_from_slice(&less.image()[rows..]);
+                    }
+                }
+            }
+            if fault("parent") {
+                let size = 4 * known.state.opened.row_vertices[0].len();
+                if known.state.opened.map.parts() > 1 {
+                    new[rows..rows + size].copy_from_slice(&image[rows..rows + size]);
+                }
+            }
             if fault("row") {
                 if let Some(stale) = (rows..new.len()).rev().find(|&i| new[i] != image[i]) {
                     if stale < rows + 8 {
@@ -103,7 +123,26 @@ pub unsafe extern "C" fn hailtrellis_open(
         Err(code) => no(code),
         Ok(state) => {
             let words = std::slice::from_raw_parts_mut(memory, memory_len);
-            let image = state.image();
+            let mut image = state.image();
+            if fault("leaf-distance") {
+                let opened = &state.opened;
+                for part in 0..opened.map.parts() {
+                    if opened.map.is_leaf(part) {
+                        let inside = &opened.row_vertices[part];
+                        let mut own = opened.map.clone();
+                        own.roads.retain(|r| {
+                            inside.contains(&(r.from as usize)) && inside.contains(&(r.to as usize))
+                        });
+                        let d = reference::Distances::of(&own);
+                        for (i, &a) in inside.iter().enumerate() {
+                            for (j, &b) in inside.iter().enumerate() {
+                                image[opened.table_at[part] + i * inside.len() + j] =
+                                    d.from_to(a, b);
+                            }
+                        }
+                    }
+                }
+            }
             words[..image.len()].copy_from_slice(&image);
             let mut states = STATES.lock().unwrap();
             states
@@ -126,7 +165,9 @@ pub unsafe extern "C" fn hailtrellis_add(
     to: u32,
     offset: u32,
 ) -> Reply {
-    change(memory, memory_len, van < 1024, |s| s.add(van, from, to, offset))
+    change(memory, memory_len, van < 1024, |s| {
+        s.add(van, from, to, offset)
+    })
 }
 
 #[no_mangle]
@@ -161,7 +202,26 @@ pub unsafe extern "C" fn hailtrellis_claim(
     desk: u32,
 ) -> Reply {
     let range = van < 1024 && (1..=255).contains(&desk);
-    change(memory, memory_len, range, |s| s.claim(van, stamp, desk))
+    change(memory, memory_len, range, |s| {
+        let known = s.vans[van as usize];
+        if let Some(known) = known {
+            if fault("stamp-only") && known.desk != 0 && known.stamp == stamp && s.count != u32::MAX
+            {
+                s.count += 1;
+                let stamp = s.count;
+                s.vans[van as usize] = Some(reference::Van {
+                    desk,
+                    stamp,
+                    ..known
+                });
+                return Ok(stamp);
+            }
+            if fault("hold-only") && known.desk == 0 {
+                return s.claim(van, known.stamp, desk);
+            }
+        }
+        s.claim(van, stamp, desk)
+    })
 }
 
 #[no_mangle]
@@ -204,6 +264,37 @@ pub unsafe extern "C" fn hailtrellis_question(
         Ok(list) => {
             let answer = std::slice::from_raw_parts_mut(answer, answer_len);
             let mut list = list;
+            if fault("stop-equal") && list.len() == k as usize {
+                let last = list[list.len() - 1][1];
+                let mut all = Vec::new();
+                for (number, van) in known.state.vans.iter().enumerate() {
+                    if let Some(van) = van.filter(|van| van.desk == 0) {
+                        let rest = known
+                            .state
+                            .opened
+                            .distances
+                            .from_to(known.state.head(&van), vertex as usize);
+                        if rest != u32::MAX && van.offset + rest == last {
+                            all.push([number as u32, last, van.stamp]);
+                        }
+                    }
+                }
+                let place = list.len() - 1;
+                list[place] = all[all.len() - 1];
+            }
+            if fault("offset") {
+                let opened = &known.state.opened;
+                let to_head = |row: &[u32; 3]| {
+                    let van = known.state.vans[row[0] as usize].unwrap();
+                    (
+                        opened
+                            .distances
+                            .from_to(known.state.head(&van), vertex as usize),
+                        row[0],
+                    )
+                };
+                list.sort_by_key(to_head);
+            }
             if fault("order") {
                 for i in 1..list.len() {
                     if list[i][1] == list[i - 1][1] {
