@@ -1,5 +1,6 @@
 //! A desk program against the reference's, on stored and random inputs, given in pieces of random sizes.
 
+use crate::work::failed_directory;
 use desk_ref::{calls, transcript, Call};
 use scenarios::{damage, random_desk_input, random_map, Dice, Limit, Size};
 use std::fs;
@@ -94,7 +95,7 @@ fn same(program: &Path, name: &str, input: &[u8], dice: &mut Dice) -> std::io::R
             wanted.get(place)
         );
     }
-    let directory = Path::new("target").join("compare-failed");
+    let directory = failed_directory();
     let file = directory.join(format!("desk-{name}.in"));
     fs::create_dir_all(&directory)?;
     fs::write(&file, input)?;

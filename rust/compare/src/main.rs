@@ -7,8 +7,9 @@
 //! - `compare replay FILE`: a failed case again;
 //! - `compare desk PROGRAM [SECONDS]`: a desk program on stored, large and random inputs, 20 seconds if not said otherwise.
 //!
-//! A case in which the two differ, in which the core crashes, or in which a call does not return within 20 seconds of the processor is written
-//! to a file in `target/compare-failed` (or the directory that COMPARE_FAILED names), as short as it could be made.
+//! A case in which the two differ, in which the core crashes, or in which a call does not return within 20 seconds of the
+//! processor is written to a file in `target/compare-failed` (or the directory that COMPARE_FAILED names), as short as it
+//! could be made.
 
 mod case;
 mod core;

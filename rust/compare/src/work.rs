@@ -81,7 +81,7 @@ fn plan(kind: Kind, seed: u64) -> genuine::Plan {
 }
 
 /// Where failed cases are written.
-fn failed_directory() -> PathBuf {
+pub fn failed_directory() -> PathBuf {
     let directory = std::env::var_os("COMPARE_FAILED").map(PathBuf::from);
     directory.unwrap_or_else(|| Path::new("target").join("compare-failed"))
 }
