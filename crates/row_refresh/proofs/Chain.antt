@@ -275,3 +275,11 @@ module _ (mem : List ℕ) (v w a b at leaf : ℕ) (e : w ≡ getD mem 4 0) (p : 
   pub switched-is : (is : Bool) (own : Row) (middle end : List ℕ) → own ≡ ownRow v is → middle ≡ shown mem (at + 5) own → end ≡ refreshedUp 16 middle leaf v is → end ≡ switched mem v is
   unfolding switched
   switched-is is own middle end o m h = h ∙ λ t. refreshedUp 16 ((m ∙ λ u. shown mem (at-is u + 5) (o u)) t) ((l ∙ ap (λ (k : ℕ). getD mem k 0) at-is) t) v is
+
+-- What a vertex shows of itself.
+module _ (v : ℕ) (is : Bool) where
+  pub own-active : (row : Row) → is ≡ true → (row .vertex ≡ v) × (row .distance ≡ 0) → row ≡ ownRow v is
+  own-active row yes-active s = rw yes-active (let a = s .0 in let b = s .1 in λ t. record { vertex = a t; distance = b t })
+
+  pub own-inactive : (row : Row) → is ≡ false → row ≡ emptyRow → row ≡ ownRow v is
+  own-inactive row inactive e = rw inactive e

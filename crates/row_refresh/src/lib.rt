@@ -71,7 +71,15 @@ fn spread_line(mem: &mut [u32], rows: usize, line: usize, size: usize, v: u32, x
 }
 
 // Where the source of a row shows v, and comes before what the row itself shows, it is offered to all rows of the part.
-fn meet(mem: &mut [u32], rows: usize, size: usize, v: u32, row: usize, line: usize, any: bool) -> bool
+fn meet(
+    mem: &mut [u32],
+    rows: usize,
+    size: usize,
+    v: u32,
+    row: usize,
+    line: usize,
+    any: bool,
+) -> bool
     requires { ⌜ (rows + 4 * size ≤ length (now mem)) × (line + size ≤ length (now mem)) × (row < 281474976710656) ⌝ }
     ensures { λ r. ⌜ (now (mem .exit) ≡ met (now (mem .entry)) rows size v row line) × (r ≡ (isNews (now (mem .entry)) v row || any)) ⌝ }
 {
@@ -182,7 +190,15 @@ fn renew(mem: &mut [u32], vs: &[u32], xs: &[u32], size: usize, v: u32, row: usiz
 }
 
 // Each of `size` rows that shows v is made anew.
-fn renew_all(mem: &mut [u32], vs: &[u32], xs: &[u32], size: usize, v: u32, rows: usize, table: usize)
+fn renew_all(
+    mem: &mut [u32],
+    vs: &[u32],
+    xs: &[u32],
+    size: usize,
+    v: u32,
+    rows: usize,
+    table: usize,
+)
     requires { ⌜ (rows + 4 * size ≤ length (now mem)) × (table + size * size ≤ length (now mem)) × (size ≤ length (now vs)) × (size ≤ length (now xs)) × (rows < 4294967296) × (table < 4294967296) × (size ≤ 128) ⌝ }
     ensures { λ _. ⌜ now (mem .exit) ≡ departed size (now (mem .entry)) (now (vs .entry)) (now (xs .entry)) size v rows table ⌝ }
 {
@@ -272,16 +288,22 @@ fn refresh_up(mem: &mut [u32], p: u32, v: u32, arrives: bool, levels: usize)
     }
 }
 
+// What v shows of itself.
+fn own_row(v: u32, active: bool) -> Row
+    ensures { λ r. ⌜ r ≡ ownRow v active ⌝ }
+{
+    if active {
+        return Row::showing(v, 0);
+    }
+    Row::empty()
+}
+
 // Vertex v became active (`arrives`) or inactive: it shows so itself, and so do the rows of its leaf and of each part above.
 pub fn switch(mem: &mut [u32], v: u32, arrives: bool)
     ensures { λ _. ⌜ now (mem .exit) ≡ switched (now (mem .entry)) v arrives ⌝ }
 {
     let at = 64 + 8 * wide(word(mem, 4)) + 8 * wide(v);
     let leaf = word(mem, at);
-    if arrives {
-        show(mem, at + 5, Row::showing(v, 0));
-    } else {
-        show(mem, at + 5, Row::empty());
-    }
+    show(mem, at + 5, own_row(v, arrives));
     refresh_up(mem, leaf, v, arrives, MOST_LEVELS);
 }
