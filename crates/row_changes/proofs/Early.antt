@@ -14,8 +14,9 @@ use Rattle.roads.specs.Dist.{dist}
 use Rattle.roads.proofs.Trail.{Net}
 use Rattle.parts.specs.Tree.{parentOf, holds, children, childOf, isLeaf}
 use Rattle.parts.specs.Border.{boundary, borders}
+use Rattle.parts.specs.Size.{rowVertices}
 use Rattle.parts.proofs.Tree.{Above, here, up, holds-parent, holds-child, one-child}
-use Rattle.parts.proofs.Down.{Tree, boundary-inside, boundary-down, children-says, children-has, borders-child, borders-says, borders-has, child-found, leaf-childless}
+use Rattle.parts.proofs.Down.{Tree, boundary-inside, boundary-down, children-says, children-has, borders-child, borders-says, borders-has, border-row, child-found, leaf-childless}
 use Rattle.rows.specs.declared.Row.{Row}
 use Rattle.rows.specs.Row.{rowOf}
 use Rattle.rows.specs.Refresh.{onward, rowAbove}
@@ -99,3 +100,10 @@ module _ (m : Map) (net : Net m) (tree : Tree m) (v : ℕ) (hv : v < m .vertices
           subst⁻¹ (λ (k : ℕ). rowOf m before k r ≡ rowOf m after k r) same
           (parent-unchanged c real hc inside unseen r (subst (λ (k : ℕ). List·Memᴰ r (borders m k)) same hr))
       by (no differ) later = later differ
+
+-- Where no row of part c changed, none of its boundary rows did.
+pub unseen-rows : (m : Map) → Net m → Tree m → (before after : ℕ → Bool) (c : ℕ) → c ≢ 0 → c < partCount m
+    → ((r : ℕ) → List·Memᴰ r (rowVertices m c) → rowOf m before c r ≡ rowOf m after c r) → Unseen m before after c
+unseen-rows m net tree before after c real hc same b hb on =
+    let child = children-has m (parentOf m c) c hc refl real in
+    same b (border-row m net tree (parentOf m c) b c (borders-has m (parentOf m c) b c hb child on) child (boundary-inside m c b on))

@@ -1,16 +1,16 @@
 -- The order of rows, and folds of `nearer`.
 -- Assumes nothing.
-use mathlib.Core.Path.{_≡_, refl, sym, _∙_, ap, ap₂, subst⁻¹}
+use mathlib.Core.Path.{_≡_, refl, sym, _∙_, ap, ap₂, subst, subst⁻¹}
 use mathlib.Core.Logic.{_⊎_, inl, inr, ⊎-elim}
 use mathlib.Core.Bool.{Bool, true, false, cond}
 use mathlib.Core.List.{List, [], _∷_, map, foldr, List·Memᴰ, List·Memᴰ·head, List·Memᴰ·tail}
-use Prim.Native.Nat.{ℕ, _+_, _<_}
+use Prim.Native.Nat.{ℕ, _+_, _≤_, _<_}
 use native.Mathlib.Decide.{decLt}
 use native.Mathlib.Omega.{arith}
 use borrow.Author.Tests.{lt-ltb, le-ltb}
 use Rattle.words.specs.Limits.{FAR}
 use Rattle.rows.specs.declared.Row.{Row}
-use Rattle.rows.specs.Row.{emptyRow, nearer}
+use Rattle.rows.specs.Row.{emptyRow, comesBefore, nearer}
 use Rattle.rows.specs.Refresh.{onward}
 use Rattle.rows.proofs.Above.{RowLe, le-self, le-trans, nearer-is, nearestOf}
 
@@ -24,7 +24,7 @@ le-antisym a b (inl p) (inr q) = absurd (omega arith)
 le-antisym a b (inr p) (inl q) = absurd (omega arith)
 le-antisym a b (inr p) (inr q) = let v : a .vertex ≡ b .vertex = omega arith in let d : a .distance ≡ b .distance = p .0 in λ i. record { vertex = v i; distance = d i }
 
-le-nearer : (x a b : Row) → RowLe x a → RowLe x b → RowLe x (nearer a b)
+pub le-nearer : (x a b : Row) → RowLe x a → RowLe x b → RowLe x (nearer a b)
 le-nearer x a b p q = ⊎-elim (λ e. subst⁻¹ (RowLe x) e p) (λ e. subst⁻¹ (RowLe x) e q) (nearer-is a b .one)
 
 nearer-left : (a b s : Row) → RowLe (nearer a (nearer b s)) b
@@ -60,6 +60,38 @@ onward-le a b d h = by (decLt (a .distance + d) FAR) (decLt (b .distance + d) FA
     by (no p) (yes q) (inl less) = absurd (omega (arith, p))
     by (no p) (yes q) (inr same) = absurd (omega (arith, p))
     by (no p) (no q) h = rw (le-ltb (a .distance + d) FAR (omega (arith, p)), le-ltb (b .distance + d) FAR (omega (arith, q))) (le-self emptyRow)
+
+-- a row seen further on at once comes no later than seen so in two steps, where that is no shorter
+pub onward-twice : (a : Row) (d e f : ℕ) → d ≤ e + f → RowLe (onward a d) (onward (onward a e) f)
+unfolding onward
+onward-twice a d e f short = by (decLt (a .distance + e) FAR)
+  where
+    most : RowLe (onward a d) emptyRow
+    most = at-most (decLt (a .distance + d) FAR)
+      where
+        at-most : Dec (a .distance + d < FAR) → RowLe (onward a d) emptyRow
+        at-most (yes near) = rw (lt-ltb (a .distance + d) FAR near) (inl near)
+        at-most (no far) = rw (le-ltb (a .distance + d) FAR (omega (arith, far))) (le-self emptyRow)
+
+    on : a .distance + e < FAR → Dec (a .distance + e + f < FAR) → RowLe (onward a d) (onward (record { vertex = a .vertex; distance = a .distance + e }) f)
+    on near (yes nearby) = rw (lt-ltb (a .distance + e + f) FAR nearby, lt-ltb (a .distance + d) FAR (omega arith)) (step (decLt (a .distance + d) (a .distance + e + f)))
+      where
+        step : Dec (a .distance + d < a .distance + e + f) → RowLe (record { vertex = a .vertex; distance = a .distance + d }) (record { vertex = a .vertex; distance = a .distance + e + f })
+        step (yes less) = inl less
+        step (no same) = inr (omega (arith, same), omega arith)
+    on near (no far) = rw (le-ltb (a .distance + e + f) FAR (omega (arith, far))) most
+
+    by : Dec (a .distance + e < FAR) → RowLe (onward a d) (onward (onward a e) f)
+    by (yes near) = rw (lt-ltb (a .distance + e) FAR near) (on near (decLt (a .distance + e + f) FAR))
+    by (no far) = rw (le-ltb (a .distance + e) FAR (omega (arith, far)), le-ltb (FAR + f) FAR (omega arith)) most
+
+-- what comes no earlier than a row leaves it as it is
+pub nearer-kept : (a b : Row) → RowLe b a → nearer a b ≡ b
+nearer-kept a b h = le-antisym (nearer a b) b (nearer-is a b .right) (le-nearer b a b h (le-self b))
+
+pub not-before : (a b : Row) → comesBefore a b ≡ false → RowLe b a
+unfolding nearer
+not-before a b late = subst (λ (k : Row). RowLe k a) (ap (λ (t : Bool). cond t a b) late) (nearer-is a b .left)
 
 -- Some of a list's rows come nearer, and a test shows at least those: it is enough to compare them with what was nearest.
 module _ {A : Type 0} (new : A → Row) (old : A → Row) (test : A → Bool) where
