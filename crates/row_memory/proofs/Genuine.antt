@@ -38,7 +38,7 @@ use Rattle.row_memory.specs.Kept.{Kept}
 use Rattle.row_memory.specs.Laid.{Laid, RowsShow}
 use Rattle.row_memory.proofs.Apart.{rows-last, rows-first, table-last, table-before, part-before, itself-before, early, beside}
 use Rattle.row_memory.proofs.Offered.{Plain, kept-self}
-use Rattle.row_memory.proofs.OnePart.{Ready, Triangle, Closed, arrived-rows, departed-rows, arrived-none}
+use Rattle.row_memory.proofs.OnePart.{Ready, Triangle, Closed, arrived-rows, departed-rows, arrived-none, departed-none}
 
 -- A fold over the entries' numbers.
 module _ {B : Type 0} where
@@ -188,6 +188,19 @@ module _ (m : Map) (net : Net m) (tree : Tree m) (p : ℕ) (hp : p < partCount m
         ∙ ap (λ (b : Bool). cond b (departed (sizeOf m p) mem (sources mem (firstRowOf m p) (sizeOf m p)) (sourceCount mem (firstRowOf m p) (sizeOf m p)) (sizeOf m p) v (firstRowOf m p) (tableOf m p)) mem)
         (sym (here-touched false) ∙ none)
 
+    -- a departure looks at all rows, also where none shows v
+    all-looked-at : changed mem (firstRowOf m p) (tableOf m p) (sizeOf m p) v false
+        ≡ departed (sizeOf m p) mem (sources mem (firstRowOf m p) (sizeOf m p)) (sourceCount mem (firstRowOf m p) (sizeOf m p)) (sizeOf m p) v (firstRowOf m p) (tableOf m p)
+    unfolding changed
+    all-looked-at = by (anyShows (sizeOf m p) mem v (firstRowOf m p)) refl
+      where
+        all : List ℕ
+        all = departed (sizeOf m p) mem (sources mem (firstRowOf m p) (sizeOf m p)) (sourceCount mem (firstRowOf m p) (sizeOf m p)) (sizeOf m p) v (firstRowOf m p) (tableOf m p)
+
+        by : (b : Bool) → anyShows (sizeOf m p) mem v (firstRowOf m p) ≡ b → cond b all mem ≡ all
+        by true e = refl
+        by false e = sym (departed-none (sources mem (firstRowOf m p) (sizeOf m p)) (sourceCount mem (firstRowOf m p) (sizeOf m p)) (sizeOf m p) v (sizeOf m p) mem (firstRowOf m p) (tableOf m p) e)
+
     closed : Closed (firstRowOf m p) (sizeOf m p) (tableOf m p) (λ i. source m after p (rowVertex m p i)) (λ i j. dist m (rowVertex m p i) (rowVertex m p j)) mem
     closed i j hi hj =
         subst⁻¹ (λ (k : Row). RowLe k (onward (rowIn mem (firstRowOf m p + 4 * i)) (dist m (rowVertex m p i) (rowVertex m p j)))) (shows j hj)
@@ -211,4 +224,20 @@ module _ (m : Map) (net : Net m) (tree : Tree m) (p : ℕ) (hp : p < partCount m
         )
 
     pub departed-here : Switched v false before after → Kept (firstRowOf m p) (sizeOf m p) mem (refreshed mem p v false) × RowsShow m after (refreshed mem p v false) p
-    departed-here switch = ?
+    unfolding rowAnew candidate sizeOf
+    departed-here switch =
+        let done =
+        departed-rows (firstRowOf m p) (sizeOf m p) (tableOf m p) (λ i. source m after p (rowVertex m p i)) (λ i j. dist m (rowVertex m p i) (rowVertex m p j)) v few mem (ready after mem laid later)
+        in
+        let again : (j : ℕ) → foldr (λ n best. nearer (candidate m after p (rowVertex m p j) (rowVertex m p n)) best) emptyRow (countFrom 0 (sizeOf m p)) ≡ rowAnew m after p (rowVertex m p j) =
+        λ j.
+        fold-numbers (λ b best. nearer (candidate m after p (rowVertex m p j) b) best) emptyRow 0 (rowVertices m p)
+        ∙ fold-map nearer (candidate m after p (rowVertex m p j)) emptyRow (rowVertices m p)
+        in
+        subst⁻¹ (λ (l : List ℕ). Kept (firstRowOf m p) (sizeOf m p) mem l × RowsShow m after l p) (here false ∙ all-looked-at) (
+          done .kept,
+          λ j hj.
+              done .shows j hj
+              ∙ (λ t. cond (eqb (shows j hj t .vertex) v) (again j t) (shows j hj t))
+              ∙ sym (row-left m v switch net tree p hp (rowVertex m p j) (row-in j hj)),
+        )

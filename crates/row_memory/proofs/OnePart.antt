@@ -14,12 +14,13 @@ use lib.Dec.{eqb, ltb}
 use borrow.Author.Tests.{eqb-true, lt-ltb, le-ltb}
 use Rattle.words.specs.Limits.{FAR}
 use Rattle.words.specs.Lists.{word, countFrom}
+use Rattle.words.proofs.Tests.{neither-true}
 use Rattle.rows.specs.declared.Row.{Row}
 use Rattle.rows.specs.Row.{emptyRow, comesBefore, nearer}
 use Rattle.rows.specs.Refresh.{onward}
 use Rattle.rows.proofs.Above.{RowLe, le-trans, nearer-is}
 use Rattle.row_changes.proofs.Order.{le-nearer, onward-le, onward-twice, nearer-kept, not-before, met, met-turn}
-use Rattle.row_refresh.specs.Model.{rowIn, shown, sourceIn, offeredTo, offered, spread, isNews, met as metIn, arrived, anyNews, noted, notedCount, listed, listedCount, sources, sourceCount, gathered, renewed, departed}
+use Rattle.row_refresh.specs.Model.{rowIn, shown, sourceIn, offeredTo, offered, spread, isNews, met as metIn, arrived, anyNews, anyShows, noted, notedCount, listed, listedCount, sources, sourceCount, gathered, renewed, departed}
 use Rattle.row_memory.specs.Kept.{Kept}
 use Rattle.row_memory.proofs.Offered.{Plain, onward-plain, nearer-plain, nearer-empty, offered-near, shown-row, shown-others, shown-length, offered-row, OneRow, kept-self, kept-trans, one-offered, one-shown, one-self}
 
@@ -32,6 +33,15 @@ pub record Facts (rows size table : ℕ) (from : ℕ → Row) (far : ℕ → ℕ
 pub record Ready (rows size table : ℕ) (from : ℕ → Row) (far : ℕ → ℕ → ℕ) (mem : List ℕ) : Type 0 where
   pub facts : (after : List ℕ) → Kept rows size mem after → Facts rows size table from far after
   pub fits : rows + 4 * size ≤ length mem
+
+-- Where no row shows v, none is made anew.
+pub departed-none : (list : List ℕ) (count size v left : ℕ) (mem : List ℕ) (row column : ℕ) → anyShows left mem v row ≡ false → departed left mem list count size v row column ≡ mem
+unfolding anyShows departed renewed
+departed-none list count size v zero mem row column none = refl
+departed-none list count size v (suc left) mem row column none =
+    let both = neither-true (eqb (word mem row) v) (anyShows left mem v (row + 4)) none in
+    ap (λ (b : Bool). departed left (cond b (shown mem row (gathered count mem list size column 0 emptyRow)) mem) list count size v (row + 4) (column + 1)) (both .0)
+    ∙ departed-none list count size v left mem (row + 4) (column + 1) (both .1)
 
 -- the source n was offered to row i alone
 record Offer (rows size : ℕ) (row : Row) (i : ℕ) (mem after : List ℕ) : Type 0 where
@@ -219,14 +229,14 @@ module _ (rows size table : ℕ) (from : ℕ → Row) (far : ℕ → ℕ → ℕ
     news-kept : (left : ℕ) (mem : List ℕ) (row line : ℕ) → anyNews true left mem rows size v row line ≡ true
     unfolding anyNews
     news-kept zero mem row line = refl
-    news-kept (suc left) mem row line = by (isNews mem v row)
+    news-kept (suc left) mem row line = by (isNews mem v row) (news-kept left (metIn mem rows size v row line) (row + 4) (line + size))
       where
         next : List ℕ
         next = metIn mem rows size v row line
 
-        by : (b : Bool) → anyNews (b || true) left next rows size v (row + 4) (line + size) ≡ true
-        by true = news-kept left next (row + 4) (line + size)
-        by false = news-kept left next (row + 4) (line + size)
+        by : (b : Bool) → anyNews true left next rows size v (row + 4) (line + size) ≡ true → anyNews (b || true) left next rows size v (row + 4) (line + size) ≡ true
+        by true later = later
+        by false later = later
 
     -- A departure. The list of sources holds each that is not empty, so gathering it is gathering all.
     module _ (mem : List ℕ) (facts : Facts rows size table from far mem) where
@@ -262,7 +272,7 @@ module _ (rows size table : ℕ) (from : ℕ → Row) (far : ℕ → ℕ → ℕ
           -- an empty source changes nothing
           skipped : FAR ≤ from i .distance → Plain best → anewFrom (suc i) left best ≡ anewFrom i (suc left) best
           unfolding onward
-          skipped far plain =
+          skipped none plain =
               ap (λ (row : Row). anewFrom (suc i) left row) (sym (nearer-empty best plain) ∙ ap (λ (row : Row). nearer row best) (sym (rw (le-ltb (from i .distance + far i j) FAR (omega arith)))))
               ∙ met-turn (seenFrom j) (seenFrom j) (λ n. true) best i (countFrom (suc i) left)
 
@@ -363,17 +373,17 @@ module _ (rows size table : ℕ) (from : ℕ → Row) (far : ℕ → ℕ → ℕ
             gathered-next zero at best s total plain later = absurd (omega (arith, total, count-least left (row + 4) count, more))
             gathered-next (suc k) at best s total plain later =
                 later next count k (at + 3) (offeredTo best (word rest at) (word rest (at + 1)) (word after (table + j + word rest (at + 2) * size))) (omega (arith, more)) (omega (arith, more, long))
-                (omega (arith, more, total)) (offered-plain i best (word rest at) (word rest (at + 1)) (word after (table + j + word rest (at + 2) * size)) v x d plain)
-                ∙ taken i left best (word rest at) (word rest (at + 1)) (word after (table + j + word rest (at + 2) * size)) v x d plain
+                (omega (arith, more, total)) (offered-plain i best (word rest at) (word rest (at + 1)) (word after (table + j + word rest (at + 2) * size)) is-vertex is-distance is-entry plain)
+                ∙ taken i left best (word rest at) (word rest (at + 1)) (word after (table + j + word rest (at + 2) * size)) is-vertex is-distance is-entry plain
               where
-                v : word rest at ≡ from i .vertex
-                v = ap (word rest) s ∙ has-vertex
+                is-vertex : word rest at ≡ from i .vertex
+                is-vertex = ap (word rest) s ∙ has-vertex
 
-                x : word rest (at + 1) ≡ from i .distance
-                x = ap (λ (a : ℕ). word rest (a + 1)) s ∙ has-distance
+                is-distance : word rest (at + 1) ≡ from i .distance
+                is-distance = ap (λ (a : ℕ). word rest (a + 1)) s ∙ has-distance
 
-                d : word after (table + j + word rest (at + 2) * size) ≡ far i j
-                d = ap (λ (a : ℕ). word after (table + j + word rest (a + 2) * size)) s ∙ has-entry
+                is-entry : word after (table + j + word rest (at + 2) * size) ≡ far i j
+                is-entry = ap (λ (a : ℕ). word after (table + j + word rest (a + 2) * size)) s ∙ has-entry
 
         gathered-from : (left i : ℕ) (list : List ℕ) (row number n k at : ℕ) (best : Row) → i + left ≡ size → row ≡ rows + 4 * i → number ≡ i → at ≡ 3 * n → 3 * (n + left) ≤ length list
             → n + k ≡ listedCount left mem row n → Plain best
@@ -443,7 +453,7 @@ module _ (rows size table : ℕ) (from : ℕ → Row) (far : ℕ → ℕ → ℕ
         gathers : Gathers mem (listed size (replicate 384 0) mem rows 0 0) (listedCount size mem rows 0)
         gathers after kept j hj =
             gathered-from mem (ready .facts mem (kept-self rows size mem)) j hj after (λ i hi. ready .facts after kept .entry i j hi hj) size 0 (replicate 384 0) rows 0 0 (listedCount size mem rows 0) 0 emptyRow
-            (omega arith) (omega arith) refl (omega arith) (omega (arith, length-replicate 384 0)) (omega arith) (inl refl)
+            (omega arith) (omega arith) refl (omega arith) (omega (arith, length-replicate {A = ℕ} 384 0)) (omega arith) (inl refl)
 
     -- No source was offered: the memory is as it was.
     pub arrived-none : (left : ℕ) (mem : List ℕ) (row line : ℕ) → anyNews false left mem rows size v row line ≡ false → arrived left mem rows size v row line ≡ mem
@@ -451,12 +461,9 @@ module _ (rows size table : ℕ) (from : ℕ → Row) (far : ℕ → ℕ → ℕ
     arrived-none zero mem row line e = refl
     arrived-none (suc left) mem row line e = by (isNews mem v row) refl e (arrived-none left mem (row + 4) (line + size))
       where
-        kept-true : (k : ℕ) (l : List ℕ) (a b : ℕ) → anyNews true k l rows size v a b ≡ true
-        kept-true k l a b = news-kept k l a b
-
         by : (b : Bool) → isNews mem v row ≡ b
             → anyNews (b || false) left (cond b (spread size mem rows line v (sourceIn mem row .distance)) mem) rows size v (row + 4) (line + size) ≡ false
             → (anyNews false left mem rows size v (row + 4) (line + size) ≡ false → arrived left mem rows size v (row + 4) (line + size) ≡ mem)
             → arrived left (cond b (spread size mem rows line v (sourceIn mem row .distance)) mem) rows size v (row + 4) (line + size) ≡ mem
-        by true f g later = absurd (true≢false (sym (kept-true left (spread size mem rows line v (sourceIn mem row .distance)) (row + 4) (line + size)) ∙ g))
+        by true f g later = absurd (true≢false (sym (news-kept left (spread size mem rows line v (sourceIn mem row .distance)) (row + 4) (line + size)) ∙ g))
         by false f g later = later g
