@@ -146,3 +146,136 @@ module _ (m : Map) (s t : State) (slots : length (s .vans) ≡ vans) (slots′ :
       by a (in-vans i w hi hw e) = front a (omega (arith, tables-start m, rows-start m))
       by a (in-tables p i j hp hi hj e) = front a (omega (arith, table-before m p hp i j hi hj))
       by a (in-rows p i w hp hi hw e) = ap (word out) e ∙ row p i w hp hi hw ∙ ap (word (image m t)) (sym e)
+
+-- Which words show of a vertex whether it is active.
+record OwnWord (m : Map) (a : ℕ) : Type 0 where
+  vertex : ℕ
+  which : ℕ
+  is-vertex : vertex < m .vertices
+  is-one : which < 2
+  at : a ≡ itselfAt m vertex + which
+
+own-or-not : (m : Map) (a : ℕ) → OwnWord m a ⊎ ((u w : ℕ) → u < m .vertices → w < 2 → a ≡ itselfAt m u + w → ⊥)
+unfolding itselfAt
+own-or-not m a = by (decLt a (verticesAt m)) (decLt a (roadsAt m))
+  where
+    by : Dec (a < verticesAt m) → Dec (a < roadsAt m) → OwnWord m a ⊎ ((u w : ℕ) → u < m .vertices → w < 2 → a ≡ verticesAt m + 8 * u + 5 + w → ⊥)
+    by (yes low) r = inr (λ u w hu hw e. omega arith)
+    by (no high) (no past) = inr (λ u w hu hw e. omega (arith, past, vertices-start m, roads-start m))
+    by (no high) (yes within-section) = in-section (in-record 8 (m .vertices) (a - verticesAt m) (omega (arith, high, vertices-start m, roads-start m)))
+      where
+        in-section : InRecord 8 (m .vertices) (a - verticesAt m) → OwnWord m a ⊎ ((u w : ℕ) → u < m .vertices → w < 2 → a ≡ verticesAt m + 8 * u + 5 + w → ⊥)
+        in-section r = by-word (decLt (r .at) 5) (decLt (r .at) 7)
+          where
+            by-word : Dec (r .at < 5) → Dec (r .at < 7) → OwnWord m a ⊎ ((u w : ℕ) → u < m .vertices → w < 2 → a ≡ verticesAt m + 8 * u + 5 + w → ⊥)
+            by-word (yes early-word) k = inr (λ u w hu hw e. omega (arith, high, r .is-sum))
+            by-word (no past) (no last) = inr (λ u w hu hw e. omega (arith, high, past, last, r .is-sum, r .is-within))
+            by-word (no past) (yes own) =
+                inl (record { vertex = r .number; which = r .at - 5; is-vertex = r .is-record; is-one = omega (arith, past, own); at = omega (arith, high, past, own, r .is-sum) })
+
+itself-same : (before after : ℕ → Bool) (u : ℕ) → before u ≡ after u → itself before u ≡ itself after u
+unfolding itself
+itself-same before after u same = ap (λ (b : Bool). cond b (record { vertex = u; distance = 0 }) emptyRow) same
+
+module _ (m : Map) (s t : State) (slots : length (s .vans) ≡ vans) (slots′ : length (t .vans) ≡ vans) where
+  -- a vertex that is as active as it was shows the same of itself
+  own-same : (u w : ℕ) → u < m .vertices → w < 2 → active m s u ≡ active m t u → word (image m s) (itselfAt m u + w) ≡ word (image m t) (itselfAt m u + w)
+  own-same u zero hu hw same =
+      ap (word (image m s)) (add-zero (itselfAt m u))
+      ∙ ap (λ (k : Row). k .vertex) (image-own m s slots u hu ∙ itself-same (active m s) (active m t) u same ∙ sym (image-own m t slots′ u hu))
+      ∙ ap (word (image m t)) (sym (add-zero (itselfAt m u)))
+  own-same u (suc zero) hu hw same = ap (λ (k : Row). k .distance) (image-own m s slots u hu ∙ itself-same (active m s) (active m t) u same ∙ sym (image-own m t slots′ u hu))
+  own-same u (suc (suc w)) hu hw same = absurd (omega arith)
+
+  module _ (mem : List ℕ) (old : RowsOld m s t mem) where
+    -- No vertex became active or inactive: the memory is the image of t as it stands.
+    pub image-unswitched : ((u : ℕ) → u < m .vertices → active m s u ≡ active m t u) → mem ≡ image m t
+    image-unswitched same =
+        is-image m s t slots slots′ mem half mem
+        (record { shows = λ p hp j hj. half-rows m s t slots slots′ mem half p hp j hj ∙ row-elsewhere m (active m s) (active m t) p (rowVertex m p j) (λ u inside. same u (holds-says m p u inside .0)); others = λ a out. refl; long = refl })
+      where
+        half : Half m s t mem
+        half =
+            record {
+              long = old .long;
+              new = λ a h. ⊎-elim (λ o. ap (word mem) (o .at) ∙ old .itself (o .vertex) (o .which) (o .is-vertex) (o .is-one) ∙ own-same (o .vertex) (o .which) (o .is-vertex) (o .is-one) (same (o .vertex) (o .is-vertex)) ∙ ap (word (image m t)) (sym (o .at))) (λ away. old .others a h away) (own-or-not m a);
+              old = old .rows;
+            }
+
+    module _ (v : ℕ) (hv : v < m .vertices) (is : Bool) (switch : Switched v is (active m s) (active m t)) where
+      -- v shows of itself what it is now
+      written : List ℕ
+      written = shown mem (itselfAt m v) (ownRow v is)
+
+      own-is : ownRow v is ≡ itself (active m t) v
+      unfolding itself
+      own-is = ap (λ (b : Bool). cond b (record { vertex = v; distance = 0 }) emptyRow) (sym (switch .here))
+
+      written-row : rowIn written (itselfAt m v) ≡ rowIn (image m t) (itselfAt m v)
+      unfolding written
+      written-row =
+          shown-row mem (itselfAt m v) (ownRow v is) (omega (arith, itself-before m v hv, rows-end m, old .long)) ∙ own-is ∙ sym (image-own m t slots′ v hv)
+
+      elsewhere : (a : ℕ) → (a ≡ itselfAt m v → ⊥) → (a ≡ itselfAt m v + 1 → ⊥) → a < rowsAt m → word mem a ≡ word (image m t) a
+      elsewhere a p q h = ⊎-elim own (λ away. old .others a h away) (own-or-not m a)
+        where
+          other : (o : OwnWord m a) → o .vertex ≢ v
+          other o same = by (decLt (o .which) 1)
+            where
+              place : a ≡ itselfAt m v + o .which
+              place = o .at ∙ ap (λ (k : ℕ). itselfAt m k + o .which) same
+
+              by : Dec (o .which < 1) → ⊥
+              by (yes first) = p (omega (arith, place, first))
+              by (no second) = q (omega (arith, place, second, o .is-one))
+
+          own : OwnWord m a → word mem a ≡ word (image m t) a
+          own o =
+              ap (word mem) (o .at)
+              ∙ old .itself (o .vertex) (o .which) (o .is-vertex) (o .is-one)
+              ∙ own-same (o .vertex) (o .which) (o .is-vertex) (o .is-one) (switch .elsewhere (o .vertex) (other o))
+              ∙ ap (word (image m t)) (sym (o .at))
+
+      half-written : Half m s t written
+      unfolding written
+      half-written =
+          record {
+            long = shown-length mem (itselfAt m v) (ownRow v is) ∙ old .long;
+            new = λ a h. by a h (ℕ-discrete a (itselfAt m v)) (ℕ-discrete a (itselfAt m v + 1));
+            old = λ a h. shown-others mem (itselfAt m v) (ownRow v is) a (λ e. omega (arith, itself-before m v hv)) (λ e. omega (arith, itself-before m v hv)) ∙ old .rows a h;
+          }
+        where
+          by : (a : ℕ) → a < rowsAt m → Dec (a ≡ itselfAt m v) → Dec (a ≡ itselfAt m v + 1) → word written a ≡ word (image m t) a
+          by a h (yes e) d = ap (word written) e ∙ ap (λ (k : Row). k .vertex) written-row ∙ ap (word (image m t)) (sym e)
+          by a h (no n) (yes e) = ap (word written) e ∙ ap (λ (k : Row). k .distance) written-row ∙ ap (word (image m t)) (sym e)
+          by a h (no n) (no k) = shown-others mem (itselfAt m v) (ownRow v is) a n k ∙ elsewhere a n k h
+
+      -- the memory leads to v's record and to its leaf
+      parts-word : word mem 4 ≡ partCount m
+      unfolding itselfAt headPart
+      parts-word =
+          old .others 4 (omega (arith, vertices-start m, roads-start m, vans-start m, tables-start m, rows-start m)) (λ u w hu hw e. omega (arith, vertices-start m)) ∙ head-word m t slots′ 4 (omega arith)
+
+      record-at : vertexAt mem v ≡ verticesAt m + 8 * v
+      record-at = ap (λ (k : ℕ). 64 + 8 * k + 8 * v) parts-word ∙ ap (λ (k : ℕ). k + 8 * v) (sym (vertices-start m))
+
+      own-at : vertexAt mem v + 5 ≡ itselfAt m v
+      unfolding itselfAt
+      own-at = ap (λ (k : ℕ). k + 5) record-at
+
+      leaf-word : word mem (vertexAt mem v) ≡ leafOf m v
+      unfolding itselfAt vertexRecord
+      leaf-word =
+          ap (word mem) record-at
+          ∙ old .others (verticesAt m + 8 * v) (omega (arith, vertices-start m, roads-start m, vans-start m, tables-start m, rows-start m)) (λ u w hu hw e. omega arith)
+          ∙ ap (word (image m t)) (sym (add-zero (verticesAt m + 8 * v)))
+          ∙ vertex-word m t slots′ v 0 hv (omega arith)
+
+      -- v alone became active or inactive: `switch` makes the image of t.
+      pub image-switched : Sound m → switched mem v is ≡ image m t
+      unfolding switched written
+      image-switched sound =
+          (λ i. refreshedUp 16 (shown mem (own-at i) (ownRow v is)) (leaf-word i) v is)
+          ∙ is-image m s t slots slots′ written half-written (refreshedUp 16 written (leafOf m v) v is)
+          (refreshed-up m (sound-net m sound) (sound-tree m sound) (few-rows m sound) v hv (active m s) (active m t) is switch 16 (sound .part (leafOf m v) (sound .vertex v hv .0) .level) written
+          (half-laid m s t slots slots′ written half-written) (half-rows m s t slots slots′ written half-written))
