@@ -81,8 +81,8 @@ pub fn take_out(mem: &mut [u32], counts: Counts, van: u32, vertex: u32, words: V
     let next = word(mem, link);
     let before = behind(mem, counts, vertex, van);
     put(mem, before, next);
-    write_van(mem, counts, van, words);
     put(mem, link, 0);
+    write_van(mem, counts, van, words);
 }
 
 // A van that is not free enters the list of a vertex, and stands as `words` say.
@@ -94,6 +94,6 @@ pub fn put_in(mem: &mut [u32], counts: Counts, van: u32, vertex: u32, words: Van
     let before = behind(mem, counts, vertex, van);
     let next = word(mem, before);
     put(mem, before, van + 1);
-    write_van(mem, counts, van, words);
     put(mem, link, next);
+    write_van(mem, counts, van, words);
 }
