@@ -1,0 +1,2 @@
+-- Laws of the verdicts.
+pub mod Ways
