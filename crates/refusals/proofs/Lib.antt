@@ -1,2 +1,3 @@
 -- Laws of the verdicts.
 pub mod Ways
+pub mod Agrees

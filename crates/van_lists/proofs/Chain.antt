@@ -4,11 +4,21 @@ use mathlib.Core.Path.{_≡_, _∙_, ap}
 use mathlib.Core.List.{List}
 use Prim.Native.Nat.{ℕ, _+_}
 use lib.ListN.{set}
+use borrow.Author.Tests.{eq-eqb, ne-eqb}
 use Rattle.words.specs.Lists.{word}
 use Rattle.counts.specs.declared.Counts.{Counts}
 use Rattle.places.specs.Place.{vanAt}
+use Rattle.fleet.specs.State.{absent}
 use Rattle.van_lists.specs.declared.VanWords.{VanWords}
+use Rattle.van_lists.specs.Slot.{wordsOf, stamped}
 use Rattle.van_lists.specs.Walk.{behind, written, relinked, takenOut, putIn}
+
+module _ (words : VanWords) (stamp : ℕ) where
+  pub stamped-none : words .state ≡ 0 → wordsOf absent ≡ stamped words stamp
+  stamped-none none = rw (eq-eqb (words .state) 0 none)
+
+  pub stamped-there : (words .state ≡ 0 → ⊥) → _≡_ {A = VanWords} (record { state = words .state; road = words .road; offset = words .offset; stamp = stamp }) (stamped words stamp)
+  stamped-there there = rw (ne-eqb (words .state) 0 there)
 
 module _ (mem : List ℕ) (counts : Counts) (van vertex : ℕ) (words : VanWords) where
   pub taken-out : (at next before : ℕ) (first second end : List ℕ) → at ≡ vanAt counts van → next ≡ word mem (at + 4) → before ≡ behind mem counts vertex van

@@ -8,6 +8,7 @@ use places::van_at;
 use places::vertex_at;
 ghost use mathlib.Core.Path.{_≡_};
 ghost use Prim.Native.Nat.{_<_};
+ghost use Rattle.van_lists.specs.Slot.{stamped};
 ghost use Rattle.van_lists.specs.Walk.{vanIn, behind, written, takenOut, putIn};
 
 // The first four words of a van's record.
@@ -28,6 +29,21 @@ impl VanWords {
         offset: 0,
         stamp: 0,
     };
+
+    // The same under another stamp; an absent van has none.
+    pub fn stamped(self, stamp: u32) -> VanWords
+        ensures { λ r. ⌜ r ≡ stamped self stamp ⌝ }
+    {
+        if self.state == 0 {
+            return VanWords::ABSENT;
+        }
+        VanWords {
+            state: self.state,
+            road: self.road,
+            offset: self.offset,
+            stamp,
+        }
+    }
 }
 
 pub fn van_in(mem: &[u32], counts: Counts, van: u32) -> VanWords
