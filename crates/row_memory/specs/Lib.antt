@@ -1,0 +1,2 @@
+-- Rows as they stand in a memory.
+pub mod Old
