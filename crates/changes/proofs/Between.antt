@@ -9,15 +9,14 @@ use lib.Seq.{getD-set-same, getD-set-other}
 use native.Mathlib.Decide.{ℕ-discrete}
 use Rattle.words.specs.Limits.{vans}
 use Rattle.words.specs.Lists.{word}
-use Rattle.roads.specs.Map.{Map, partCount, roadCount}
-use Rattle.parts.specs.Size.{need}
+use Rattle.roads.specs.Map.{Map}
 use Rattle.places.specs.Place.{vertexAt, vanAt}
 use Rattle.fleet.specs.State.{Slot, absent, present, State, active, slotOf}
-use Rattle.image.specs.Places.{verticesAt, roadsAt, vansAt, tablesAt, rowsAt, itselfAt, tableOf, firstRowOf}
+use Rattle.image.specs.Places.{verticesAt, vansAt, tablesAt, rowsAt, itselfAt, tableOf, firstRowOf}
 use Rattle.image.specs.Image.{headPart, vertexRecord, image}
 use Rattle.image.proofs.Length.{image-length}
 use Rattle.image.proofs.Records.{vertices-start, roads-start, vans-start, tables-start, rows-start, rows-end, head-word, part-word, vertex-word, road-word, van-word, table-word, shown-word, Address, in-head, in-parts, in-vertices, in-roads, in-vans, in-tables, in-rows, address, image-by-words}
-use Rattle.van_lists.proofs.Links.{withSlot, linkFrom, slotWords, van-record}
+use Rattle.van_lists.proofs.Links.{linkFrom, slotWords, van-record}
 use Rattle.van_lists.proofs.Parked.{Parked, field, OnlyVans}
 use Rattle.row_memory.specs.Old.{RowsOld}
 use Rattle.changes.proofs.Reading.{countsOf, vertex-place, van-place, vans-end, tables-within}

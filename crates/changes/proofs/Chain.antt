@@ -1,6 +1,6 @@
 -- What a function's calls, one after the other, come to, over plain values.
 -- Assumes nothing.
-use mathlib.Core.Path.{_≡_, refl, sym, _∙_, ap}
+use mathlib.Core.Path.{_≡_, sym, _∙_, ap}
 use mathlib.Core.Bool.{true, false}
 use mathlib.Core.List.{List}
 use Prim.Native.Nat.{ℕ, _+_}
@@ -17,7 +17,7 @@ use Rattle.van_lists.specs.Slot.{wordsOf, stamped}
 use Rattle.van_lists.specs.Walk.{written, takenOut, putIn}
 use Rattle.road_lookup.specs.Lookup.{endIn}
 use Rattle.row_refresh.specs.Model.{switched}
-use Rattle.changes.specs.Made.{nobody, departed, arrived, moved, made, counted, settled}
+use Rattle.changes.specs.Made.{departed, arrived, moved, made, counted, settled}
 
 module _ (mem : List ℕ) (counts : Counts) (van vertex : ℕ) (words : VanWords) (at first : ℕ) (place : at ≡ vertexAt counts vertex) where
   -- the first van of the list, where it was read

@@ -1,33 +1,29 @@
 -- The change on the words used: what its verdict, and the change that is made, come to.
 -- Assumes nothing.
-use mathlib.Core.Path.{_≡_, refl, sym, ap, subst, subst⁻¹, _∙_}
-use mathlib.Core.Logic.{_≢_}
+use mathlib.Core.Path.{_≡_, refl, sym, ap, subst, _∙_}
 use mathlib.Core.Bool.{true, false, not}
 use mathlib.Core.List.{List}
-use Prim.Native.Nat.{ℕ, zero, suc, _+_, _<_}
+use Prim.Native.Nat.{ℕ, suc, _+_}
 use native.Mathlib.Omega.{arith}
 use native.Mathlib.Decide.{ℕ-discrete}
-use lib.ListN.{length, set}
-use lib.Dec.{eqb}
 use borrow.Author.Tests.{eq-eqb, ne-eqb}
-use Rattle.words.specs.Limits.{vans, lastCount}
+use Rattle.words.specs.Limits.{lastCount}
 use Rattle.words.specs.Lists.{word}
-use Rattle.words.specs.Tests.{_unless_then_}
-use Rattle.roads.specs.Map.{Map, roadCount}
+use Rattle.roads.specs.Map.{Map}
 use Rattle.maps.specs.Sound.{Sound}
 use Rattle.answers.specs.declared.Reply.{Reply}
 use Rattle.answers.specs.declared.Reply.the-variants.{Accepted, CountUsedUp}
 use Rattle.answers.specs.Answered.{answered}
 use Rattle.counts.specs.declared.Counts.{Counts}
 use Rattle.places.specs.Place.{countsIn}
-use Rattle.fleet.specs.State.{Van, Slot, absent, present, State, slotOf}
+use Rattle.fleet.specs.State.{Slot, State, slotOf}
 use Rattle.fleet.specs.Good.{Good}
 use Rattle.fleet.specs.declared.Change.{Change}
-use Rattle.fleet.specs.Change.{Answer, refused, accepted, numberOf, inRange, countLeft, refusalOf, vanOf, slotAfter, Stepped, stepBy, step}
+use Rattle.fleet.specs.Change.{refused, accepted, inRange, countLeft, refusalOf, vanOf, slotAfter, Stepped, stepBy, step}
 use Rattle.fleet.proofs.Good.{van-in-range, step-good}
 use Rattle.image.specs.Image.{image}
 use Rattle.van_lists.specs.declared.VanWords.{VanWords}
-use Rattle.van_lists.specs.Slot.{wordsOf, stamped}
+use Rattle.van_lists.specs.Slot.{wordsOf}
 use Rattle.van_lists.specs.Walk.{vanIn}
 use Rattle.van_lists.proofs.Relink.{slot-new}
 use Rattle.refusals.specs.declared.Verdict.{Verdict}

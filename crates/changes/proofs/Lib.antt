@@ -6,3 +6,4 @@ pub mod Same
 pub mod OneVan
 pub mod Whole
 pub mod Finish
+pub mod Gate

@@ -1,38 +1,32 @@
 -- One van stands anew in the words of a map and a fleet: they are the words of the fleet in which it stands so, rows included.
 -- Assumes nothing.
 use mathlib.Core.Path.{_≡_, refl, sym, ap, _∙_}
-use mathlib.Core.Logic.{_⊎_, inl, inr}
 use mathlib.Core.Bool.{Bool, true, false, not}
 use mathlib.Core.List.{List}
-use Prim.Native.Nat.{ℕ, suc, _+_, _<_}
+use Prim.Native.Nat.{ℕ, _+_, _<_}
 use native.Mathlib.Omega.{arith}
 use native.Mathlib.Decide.{ℕ-discrete}
 use lib.ListN.{length}
-use lib.Seq.{set-set}
 use lib.Dec.{eqb}
 use borrow.Author.Tests.{eq-eqb, ne-eqb}
 use Rattle.words.specs.Limits.{vans}
 use Rattle.words.specs.Lists.{word}
-use Rattle.words.proofs.Places.{entry-in}
-use Rattle.roads.specs.Map.{Map, roadCount, noRoad, roadAt}
-use Rattle.maps.specs.Sound.{Sound}
+use Rattle.roads.specs.Map.{Map}
 use Rattle.places.specs.Place.{vertexAt}
-use Rattle.fleet.specs.State.{Van, Slot, absent, present, State, slotOf, headOf, headsFor, active}
+use Rattle.fleet.specs.State.{Slot, State, slotOf, headsFor, active}
 use Rattle.image.specs.Image.{image}
 use Rattle.van_lists.specs.Slot.{wordsOf}
 use Rattle.van_lists.specs.Walk.{written, takenOut, putIn}
 use Rattle.van_lists.proofs.Found.{clash, Found, nothing, found}
-use Rattle.van_lists.proofs.Links.{withSlot, headsAt, linkFrom, link-found, active-first, heads-there, heads-held, heads-absent}
+use Rattle.van_lists.proofs.Links.{withSlot, headsAt, linkFrom, link-found, active-first}
 use Rattle.van_lists.proofs.Parked.{Parked}
 use Rattle.van_lists.proofs.Relink.{slot-new, slots-kept, link-elsewhere}
 use Rattle.van_lists.proofs.OneVan.{one-head, parked-kept, kept-only, parked-out, out-only, parked-in, in-only}
-use Rattle.road_lookup.specs.Lookup.{endIn}
 use Rattle.row_changes.specs.Switch.{Switched}
 use Rattle.row_refresh.specs.Model.{switched}
 use Rattle.row_memory.specs.Old.{RowsOld}
-use Rattle.changes.specs.Made.{departed, arrived, moved, made}
-use Rattle.changes.proofs.Chain.{makes-kept, makes-moved, makes-departed, makes-arrived, makes-written}
-use Rattle.changes.proofs.Reading.{countsOf, image-parked, image-roads}
+use Rattle.changes.specs.Made.{departed, arrived}
+use Rattle.changes.proofs.Reading.{countsOf, image-parked}
 use Rattle.changes.proofs.Between.{rows-old}
 use Rattle.changes.proofs.Same.{same-image}
 

@@ -2,23 +2,23 @@
 -- Assumes nothing.
 use mathlib.Core.Path.{_≡_, refl, sym, ap, _∙_}
 use mathlib.Core.List.{List}
-use Prim.Native.Nat.{ℕ, suc, _+_, _*_, _≤_, _<_}
+use Prim.Native.Nat.{ℕ, _+_, _*_, _≤_, _<_}
 use native.Mathlib.Nat.{add-zero}
 use native.Mathlib.Omega.{arith}
-use lib.ListN.{length, getD, drop}
+use lib.ListN.{length}
 use lib.Seq.{ext-getD}
 use Rattle.words.specs.Limits.{vans}
 use Rattle.words.specs.Lists.{word}
 use Rattle.cells.specs.Part.{part}
 use Rattle.cells.proofs.Part.{part-length, part-at}
 use Rattle.roads.specs.Map.{Map, partCount, roadCount, roadAt}
-use Rattle.parts.specs.Size.{tableWords, rowCount, need}
+use Rattle.parts.specs.Size.{need}
 use Rattle.counts.specs.declared.Counts.{Counts}
 use Rattle.places.specs.Place.{countsIn, vertexAt, vanAt}
 use Rattle.fleet.specs.State.{Slot, absent, present, State, slotOf}
-use Rattle.image.specs.Places.{verticesAt, roadsAt, vansAt, tablesAt, rowsAt}
-use Rattle.image.specs.Image.{headPart, firstRoadFrom, vertexRecord, image}
-use Rattle.image.specs.Records.{roadRecord, vanWords}
+use Rattle.image.specs.Places.{verticesAt, roadsAt, vansAt, tablesAt}
+use Rattle.image.specs.Image.{headPart, vertexRecord, image}
+use Rattle.image.specs.Records.{roadRecord}
 use Rattle.image.proofs.Length.{image-length}
 use Rattle.image.proofs.Records.{vertices-start, roads-start, vans-start, tables-start, rows-start, rows-end, head-word, vertex-word, road-word, van-word}
 use Rattle.van_lists.specs.declared.VanWords.{VanWords}
@@ -26,7 +26,7 @@ use Rattle.van_lists.specs.Slot.{wordsOf}
 use Rattle.van_lists.specs.Walk.{vanIn}
 use Rattle.van_lists.proofs.Links.{linkFrom, slotWords, van-record}
 use Rattle.van_lists.proofs.Parked.{Parked, field}
-use Rattle.road_lookup.specs.Lookup.{endIn, RoadsStand}
+use Rattle.road_lookup.specs.Lookup.{RoadsStand}
 use Rattle.refusals.specs.Verdict.{weightIn}
 
 abbrev pub countsOf : Map → Counts

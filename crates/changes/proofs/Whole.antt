@@ -4,12 +4,12 @@ use mathlib.Core.Path.{_≡_, refl, sym, ap, subst, _∙_}
 use mathlib.Core.Logic.{_⊎_, inl, inr}
 use mathlib.Core.Bool.{true, false}
 use mathlib.Core.List.{List}
-use Prim.Native.Nat.{ℕ, suc, _+_, _<_}
+use Prim.Native.Nat.{ℕ, _+_, _<_}
 use native.Mathlib.Omega.{arith}
 use native.Mathlib.Decide.{ℕ-discrete}
 use lib.ListN.{length, set}
 use lib.Seq.{set-set}
-use borrow.Author.Tests.{eq-eqb, ne-eqb}
+use borrow.Author.Tests.{ne-eqb}
 use Rattle.words.specs.Limits.{vans, lastCount}
 use Rattle.words.specs.Lists.{word}
 use Rattle.words.proofs.Places.{entry-in}
@@ -23,7 +23,7 @@ use Rattle.van_lists.proofs.Links.{withSlot, headsAt, heads-there, heads-held, 
 use Rattle.van_lists.proofs.Relink.{slot-new, slots-kept}
 use Rattle.van_lists.proofs.OneVan.{one-head}
 use Rattle.road_lookup.specs.Lookup.{endIn}
-use Rattle.changes.specs.Made.{departed, arrived, made, settled}
+use Rattle.changes.specs.Made.{arrived, made, settled}
 use Rattle.changes.proofs.Chain.{makes-kept, makes-moved, makes-departed, makes-arrived, makes-written}
 use Rattle.changes.proofs.Reading.{countsOf, count-read, image-roads}
 use Rattle.changes.proofs.Between.{withCount, count-image}

@@ -23,7 +23,6 @@ use van_lists::write_van;
 ghost use mathlib.Core.Path.{_≡_};
 ghost use mathlib.Core.Bool.{true, _&&_};
 ghost use Prim.Native.Nat.{_<_};
-ghost use lib.Dec.{ltb};
 ghost use Rattle.words.specs.Lists.{word};
 ghost use Rattle.answers.specs.Answered.{answered};
 ghost use Rattle.fleet.specs.Change.{vanInRange, deskInRange, inRange, vanOf};
@@ -43,8 +42,8 @@ fn depart(mem: &mut [u32], counts: Counts, van: u32, vertex: u32, words: VanWord
     ensures { λ _. ⌜ now (mem .exit) ≡ departed (now (mem .entry)) counts van vertex words ⌝ }
 {
     take_out(mem, counts, van, vertex, words);
-    let first = word(mem, vertex_at(counts, vertex) + 4);
-    if first == 0 {
+    let others = word(mem, vertex_at(counts, vertex) + 4);
+    if others == 0 {
         switch(mem, vertex, false);
     }
 }
@@ -115,4 +114,55 @@ pub fn change_in(mem: &mut [u32], change: Change) -> Reply
         Verdict::Refuse(reply) => reply,
         Verdict::Stand(new) => settle(mem, counts, van, old, new),
     }
+}
+
+// The van and the desk are in range.
+fn holding_in_range(van: u32, desk: u32) -> bool
+    ensures { λ r. ⌜ r ≡ (vanInRange van && deskInRange desk) ⌝ }
+{
+    if van >= VANS {
+        return false;
+    }
+    is_within(1, MOST_DESK, desk)
+}
+
+// Each number of the change is in its range.
+fn in_range(change: Change) -> bool
+    ensures { λ r. ⌜ r ≡ inRange change ⌝ }
+{
+    match change {
+        Change::Add {
+            van,
+            from: _,
+            to: _,
+            offset: _,
+        } => van < VANS,
+        Change::Move {
+            van,
+            from: _,
+            to: _,
+            offset: _,
+        } => van < VANS,
+        Change::Remove { van } => van < VANS,
+        Change::Claim {
+            van,
+            stamp: _,
+            desk,
+        } => holding_in_range(van, desk),
+        Change::Release { van, desk } => holding_in_range(van, desk),
+    }
+}
+
+// Every change, for any numbers and any memory: the head, the ranges, and then the words used are lent and nothing beyond them.
+pub fn change(mem: &mut [u32], change: Change) -> Reply
+    ensures { λ r. ⌜ Changed change (now (mem .entry)) (answered r) (now (mem .exit)) ⌝ }
+{
+    if !opened_head(mem) {
+        return Reply::Unopened;
+    }
+    if !in_range(change) {
+        return Reply::OutOfRange;
+    }
+    let used = wide(word(mem, 1));
+    change_in(&mut mem[..used], change)
 }

@@ -1,8 +1,9 @@
 -- Each way out of a verdict's tests, and what a function's calls come to, over plain values.
 -- Assumes nothing.
-use mathlib.Core.Path.{_≡_, refl, sym, _∙_, ap, subst}
+use mathlib.Core.Path.{_≡_, sym, _∙_, ap, subst}
 use mathlib.Core.List.{List}
 use Prim.Native.Nat.{ℕ, _+_, _≤_, _<_}
+use native.Mathlib.Omega.{arith}
 use borrow.Author.Tests.{le-leb, lt-leb, lt-ltb, le-ltb, eq-eqb, ne-eqb}
 use Rattle.words.specs.Lists.{word}
 use Rattle.answers.specs.declared.Reply.the-variants.{NoVan, AlreadyPresent, NoRoad, OffsetAboveWeight, Held, NotHeldByDesk, StampDiffers}
@@ -10,13 +11,13 @@ use Rattle.counts.specs.declared.Counts.{Counts}
 use Rattle.places.specs.Place.{roadAt}
 use Rattle.fleet.specs.State.{absent}
 use Rattle.fleet.specs.declared.Change.{Change}
-use Rattle.fleet.specs.declared.Change.the-variants.{Add, Move, Remove, Claim, Release}
+use Rattle.fleet.specs.declared.Change.the-variants.{Add, Move}
 use Rattle.van_lists.specs.declared.VanWords.{VanWords}
 use Rattle.van_lists.specs.Slot.{wordsOf}
 use Rattle.road_lookup.specs.Lookup.{Between}
 use Rattle.refusals.specs.declared.Verdict.{Verdict}
 use Rattle.refusals.specs.declared.Verdict.the-variants.{Refuse, Stand}
-use Rattle.refusals.specs.Verdict.{deskOf, weightIn, placing, adding, moving, removing, claiming, releasing, OnRoad, Judged}
+use Rattle.refusals.specs.Verdict.{deskOf, weightIn, placing, adding, moving, removing, claiming, releasing, Judged}
 
 pub weight-read : (mem : List ℕ) (counts : Counts) (road at r : ℕ) → at ≡ roadAt counts road → r ≡ word mem (at + 2) → r ≡ weightIn mem counts road
 weight-read mem counts road at r a e = e ∙ ap (λ (k : ℕ). word mem (k + 2)) a
@@ -48,11 +49,11 @@ module _ (old : VanWords) where
   pub removing-none : old .state ≡ 0 → Refuse NoVan ≡ removing old
   removing-none none = rw (eq-eqb (old .state) 0 none)
 
-  pub removing-held : (old .state ≡ 0 → ⊥) → (old .state ≡ 1 → ⊥) → Refuse Held ≡ removing old
-  removing-held there held = rw (ne-eqb (old .state) 0 there, ne-eqb (old .state) 1 held)
+  pub removing-held : (old .state ≡ 0 → ⊥) → 1 < old .state → Refuse Held ≡ removing old
+  removing-held there held = rw (ne-eqb (old .state) 0 there, ne-eqb (old .state) 1 (λ e. omega arith))
 
-  pub removing-free : (old .state ≡ 0 → ⊥) → old .state ≡ 1 → Stand (wordsOf absent) ≡ removing old
-  removing-free there free = rw (ne-eqb (old .state) 0 there, eq-eqb (old .state) 1 free)
+  pub removing-free : (old .state ≡ 0 → ⊥) → old .state ≤ 1 → Stand (wordsOf absent) ≡ removing old
+  removing-free there free = rw (ne-eqb (old .state) 0 there, eq-eqb (old .state) 1 (omega arith))
 
   module _ (stamp desk : ℕ) where
     pub claiming-none : old .state ≡ 0 → Refuse NoVan ≡ claiming old stamp desk

@@ -66,7 +66,7 @@ fn removing(old: VanWords) -> Verdict
     if old.state == 0 {
         return Verdict::Refuse(Reply::NoVan);
     }
-    if old.state != VanWords::FREE {
+    if VanWords::FREE < old.state {
         return Verdict::Refuse(Reply::Held);
     }
     Verdict::Stand(VanWords::ABSENT)

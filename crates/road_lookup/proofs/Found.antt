@@ -1,15 +1,13 @@
 -- What the search finds, in a memory that has the roads of a sound map, is the road of the definitions.
 -- Assumes nothing.
-use mathlib.Core.Path.{_≡_, refl, sym, ap, subst, _∙_}
-use mathlib.Core.List.{List, List·Memᴰ}
-use Prim.Native.Nat.{ℕ, suc, _+_, _≤_, _<_}
-use native.Mathlib.Numerals.{add-one}
+use mathlib.Core.Path.{_≡_, sym, subst, _∙_}
+use mathlib.Core.List.{List}
+use Prim.Native.Nat.{ℕ, _+_, _≤_, _<_}
 use native.Mathlib.Omega.{arith}
 use native.Mathlib.Decide.{decLt, ℕ-discrete}
-use lib.ListN.{length, getD}
 use borrow.Author.Tests.{lt-ltb, le-ltb}
 use Rattle.words.proofs.Places.{entry-in}
-use Rattle.roads.specs.Map.{Road, Map, roadCount, noRoad, roadAt, roadBetween}
+use Rattle.roads.specs.Map.{Map, roadCount, noRoad, roadAt, roadBetween}
 use Rattle.roads.proofs.Between.{Runs}
 use Rattle.maps.specs.Sound.{Sound}
 use Rattle.counts.specs.declared.Counts.{Counts}

@@ -2,8 +2,7 @@
 -- Assumes nothing.
 use Prim.Native.Nat.{ℕ, _+_, _≤_, _<_}
 use native.Mathlib.Omega.{arith}
-use native.Mathlib.Decide.{decLt}
-use Rattle.road_lookup.specs.Lookup.{Parts, Rising, FirstTo}
+use Rattle.road_lookup.specs.Lookup.{Rising, FirstTo}
 
 -- before `from` the ends are below `to`, from `until` on they are not
 pub record Sides (ends : ℕ → ℕ) (low high to from until : ℕ) : Type 0 where

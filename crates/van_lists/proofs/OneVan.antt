@@ -1,9 +1,8 @@
 -- A van taken out of a list, put into one, or written anew in its place: the memory has the vans and lists of the fleet in which the van stands so,
 -- and no word beside those of van records and lists changed.
 -- Assumes nothing.
-use mathlib.Core.Path.{_≡_, refl, sym, _∙_, ap, ap₂}
-use mathlib.Core.Logic.{⊎-elim}
-use mathlib.Core.Bool.{Bool, true, false, cond}
+use mathlib.Core.Path.{_≡_, refl, sym, _∙_, ap}
+use mathlib.Core.Bool.{true, false}
 use mathlib.Core.List.{List}
 use Prim.Native.Nat.{ℕ, suc, _+_, _<_}
 use native.Mathlib.Omega.{arith}
@@ -11,7 +10,6 @@ use native.Mathlib.Numerals.{add-one}
 use native.Mathlib.Decide.{ℕ-discrete}
 use lib.ListN.{length, set, length-set}
 use lib.Seq.{getD-set-other}
-use lib.Dec.{eqb}
 use borrow.Author.Tests.{eq-eqb, ne-eqb}
 use Rattle.words.specs.Limits.{vans}
 use Rattle.words.specs.Lists.{word}
@@ -19,15 +17,14 @@ use Rattle.roads.specs.Map.{Map}
 use Rattle.counts.specs.declared.Counts.{Counts}
 use Rattle.places.specs.Place.{vertexAt, vanAt}
 use Rattle.fleet.specs.State.{Slot, absent, present, State, slotOf, headOf, headsFor}
-use Rattle.van_lists.specs.declared.VanWords.{VanWords}
 use Rattle.van_lists.specs.Slot.{wordsOf}
 use Rattle.van_lists.specs.Walk.{behind, written, relinked, takenOut, putIn}
 use Rattle.van_lists.proofs.Found.{clash}
-use Rattle.van_lists.proofs.Links.{withSlot, headsAt, linkFrom, Heading, heading, heads-there, heads-away, heads-held, heads-absent, recordOf, linkOf, slotWords}
+use Rattle.van_lists.proofs.Links.{withSlot, headsAt, linkFrom, heading, heads-there, heads-away, heads-held, heads-absent, recordOf, linkOf, slotWords}
 use Rattle.van_lists.proofs.Parked.{Parked, field, OnlyVans}
 use Rattle.van_lists.proofs.Spot.{LinkAt, vertex-link, van-link, Spot, link-reads, behind-spot}
 use Rattle.van_lists.proofs.Relink.{slot-new, link-later, link-without, link-with, link-was}
-use Rattle.van_lists.proofs.Frame.{But, record-of-slot, written-word, complete, but-link, but-same, but-linked}
+use Rattle.van_lists.proofs.Frame.{record-of-slot, written-word, complete, but-link, but-same, but-linked}
 
 -- a van that heads nowhere has no link, one that heads for a vertex the link to the next one
 no-link : (m : Map) (s : State) (n : ℕ) (slot : Slot) → ((v : ℕ) → headsFor m v slot ≡ false) → linkOf m s n slot ≡ 0

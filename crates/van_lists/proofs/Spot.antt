@@ -1,13 +1,12 @@
 -- In the memory of a fleet the walk along the links of a vertex stops where a van belongs.
 -- Assumes nothing.
 use mathlib.Core.Path.{_≡_, refl, sym, _∙_, ap}
-use mathlib.Core.Bool.{true, false, cond}
+use mathlib.Core.Bool.{true, false}
 use mathlib.Core.List.{List}
 use Prim.Native.Nat.{ℕ, zero, suc, _+_, _-_, _≤_, _<_}
 use native.Mathlib.Omega.{arith}
 use native.Mathlib.Decide.{decLt}
 use lib.ListN.{length}
-use lib.Dec.{eqb}
 use borrow.Author.Tests.{eq-eqb}
 use Rattle.words.specs.Limits.{vans}
 use Rattle.words.specs.Lists.{word}
@@ -17,7 +16,7 @@ use Rattle.places.specs.Place.{vertexAt, vanAt}
 use Rattle.fleet.specs.State.{State, slotOf}
 use Rattle.van_lists.specs.Walk.{walk, behind}
 use Rattle.van_lists.proofs.Found.{Found, nothing, found}
-use Rattle.van_lists.proofs.Links.{headsAt, linkFrom, link-found, Heading, heading, slotWords}
+use Rattle.van_lists.proofs.Links.{headsAt, linkFrom, link-found, heading, slotWords}
 use Rattle.van_lists.proofs.Parked.{Parked, field}
 use Rattle.van_lists.proofs.Walk.{walk-end, walk-past, walk-on, walk-done}
 
