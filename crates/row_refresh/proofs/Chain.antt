@@ -12,7 +12,7 @@ use borrow.Author.Tests.{lt-ltb, le-ltb, eq-eqb, ne-eqb, le-leb, lt-leb}
 use Rattle.words.specs.Limits.{FAR}
 use Rattle.rows.specs.declared.Row.{Row}
 use Rattle.rows.specs.Row.{emptyRow, comesBefore}
-use Rattle.row_refresh.specs.Model.{rowIn, shown, sourceIn, improves, offeredTo, offered, spread, isNews, met, arrived, anyNews, anyShows, listed, sources, gathered, renewed, departed, partAt, rowsHere, fits, changed, touches, refreshed, touched, refreshedUp, vertexAt, ownRow, switched}
+use Rattle.row_refresh.specs.Model.{rowIn, shown, sourceIn, improves, offeredTo, offered, spread, isNews, met, arrived, anyNews, anyShows, noted, notedCount, listed, listedCount, sources, sourceCount, gathered, renewed, departed, partAt, rowsHere, fits, changed, touches, refreshed, touched, refreshedUp, vertexAt, ownRow, switched}
 
 -- one line less of a table
 pub line-less : (size left n : ℕ) → left ≡ suc n → size * left ≡ size * n + size
@@ -20,6 +20,9 @@ line-less size left n e = ap (λ (k : ℕ). size * k) e ∙ mul-suc size n
 
 pub square-most : (n : ℕ) → n ≤ 128 → n * n ≤ 16384
 square-most n h = omega (arith, mul-le-mul-left {m = n} {n = 128} n h)
+
+pub times-most : (w n : ℕ) → n ≤ 128 → w * n ≤ w * 128
+times-most w n h = mul-le-mul-left {m = n} {n = 128} w h
 
 module _ (mem : List ℕ) where
   pub row-is : (at a b : ℕ) (row : Row) → (row .vertex ≡ a) × (row .distance ≡ b) → a ≡ getD mem at 0 → b ≡ getD mem (at + 1) 0 → row ≡ rowIn mem at
@@ -130,47 +133,69 @@ shows-done zero mem v row none = refl
 shows-done (suc n) mem v row none = absurd (omega arith)
 
 -- The list of sources.
-pub listed-turn : (n left : ℕ) (list end mem : List ℕ) (w row i below a x : ℕ) → left ≡ suc n → a ≡ getD mem (row + 3) 0 → below ≡ a → x ≡ getD mem (below + w) 0 → end ≡ set list i x
-    → listed n end mem w (row + 4) (i + 1) ≡ listed left list mem w row i
+module _ (list : List ℕ) (n : ℕ) (s : Row) (i : ℕ) where
+  pub noted-some : (middle end : List ℕ) → s .distance < FAR → middle ≡ shown list (3 * n) s → end ≡ set middle (3 * n + 2) i → (end ≡ noted list n s i) × (n + 1 ≡ notedCount n s) × (n + 1 ≤ n + 1)
+  unfolding noted notedCount
+  noted-some middle end near p q = (
+    rw (lt-ltb (s .distance) FAR near) (q ∙ ap (λ (l : List ℕ). set l (3 * n + 2) i) p),
+    rw (lt-ltb (s .distance) FAR near),
+    omega arith,
+  )
+
+  pub noted-none : FAR ≤ s .distance → (list ≡ noted list n s i) × (n ≡ notedCount n s) × (n ≤ n + 1)
+  unfolding noted notedCount
+  noted-none far = (rw (le-ltb (s .distance) FAR far), rw (le-ltb (s .distance) FAR far), omega arith)
+
+module _ (k left : ℕ) (list end mem : List ℕ) (row i n next : ℕ) (s : Row) (e : left ≡ suc k) (p : s ≡ sourceIn mem row) where
+  pub listed-turn : end ≡ noted list n s i → next ≡ notedCount n s → listed k end mem (row + 4) (i + 1) next ≡ listed left list mem row i n
+  unfolding listed
+  listed-turn q r = rw e (λ t. listed k ((q ∙ ap (λ (x : Row). noted list n x i) p) t) mem (row + 4) (i + 1) ((r ∙ ap (notedCount n) p) t))
+
+  pub count-turn : next ≡ notedCount n s → listedCount k mem (row + 4) next ≡ listedCount left mem row n
+  unfolding listedCount
+  count-turn r = rw e (ap (listedCount k mem (row + 4)) (r ∙ ap (notedCount n) p))
+
+pub listed-done : (left : ℕ) (list mem : List ℕ) (row i n : ℕ) → left ≤ 0 → listed left list mem row i n ≡ list
 unfolding listed
-listed-turn n left list end mem w row i below a x e p q r s =
-    rw e (ap (λ (l : List ℕ). listed n l mem w (row + 4) (i + 1)) (s ∙ ap (set list i) (r ∙ ap (λ (k : ℕ). getD mem (k + w) 0) (q ∙ p))))
+listed-done zero list mem row i n none = refl
+listed-done (suc k) list mem row i n none = absurd (omega arith)
 
-pub listed-done : (left : ℕ) (list mem : List ℕ) (w row i : ℕ) → left ≤ 0 → listed left list mem w row i ≡ list
-unfolding listed
-listed-done zero list mem w row i none = refl
-listed-done (suc n) list mem w row i none = absurd (omega arith)
+pub count-done : (left : ℕ) (mem : List ℕ) (row n : ℕ) → left ≤ 0 → listedCount left mem row n ≡ n
+unfolding listedCount
+count-done zero mem row n none = refl
+count-done (suc k) mem row n none = absurd (omega arith)
 
-pub gathered-turn : (n left : ℕ) (mem vs xs : List ℕ) (size i at : ℕ) (best next : Row) → left ≡ suc n → next ≡ offeredTo best (getD vs i 0) (getD xs i 0) (getD mem at 0)
-    → gathered n mem vs xs size (i + 1) (at + size) next ≡ gathered left mem vs xs size i at best
+pub gathered-turn : (n left : ℕ) (mem list : List ℕ) (size column from u w d : ℕ) (best next : Row) → left ≡ suc n → u ≡ getD list (from + 2) 0 → w ≡ u → d ≡ getD mem (column + w * size) 0
+    → next ≡ offeredTo best (getD list from 0) (getD list (from + 1) 0) d → gathered n mem list size column (from + 3) next ≡ gathered left mem list size column from best
 unfolding gathered
-gathered-turn n left mem vs xs size i at best next e q = rw e (ap (λ (k : Row). gathered n mem vs xs size (i + 1) (at + size) k) q)
+gathered-turn n left mem list size column from u w d best next e o p q r =
+    rw e (ap (λ (k : Row). gathered n mem list size column (from + 3) k) (r ∙ ap (offeredTo best (getD list from 0) (getD list (from + 1) 0)) (q ∙ ap (λ (k : ℕ). getD mem (column + k * size) 0) (p ∙ o))))
 
-pub gathered-done : (left : ℕ) (mem vs xs : List ℕ) (size i at : ℕ) (best : Row) → left ≤ 0 → gathered left mem vs xs size i at best ≡ best
+pub gathered-done : (left : ℕ) (mem list : List ℕ) (size column from : ℕ) (best : Row) → left ≤ 0 → gathered left mem list size column from best ≡ best
 unfolding gathered
-gathered-done zero mem vs xs size i at best none = refl
-gathered-done (suc n) mem vs xs size i at best none = absurd (omega arith)
+gathered-done zero mem list size column from best none = refl
+gathered-done (suc n) mem list size column from best none = absurd (omega arith)
 
 -- A row made anew.
-module _ (mem vs xs : List ℕ) (size v row column : ℕ) where
-  pub renewed-shown : (best : Row) (end : List ℕ) → getD mem row 0 ≡ v → best ≡ gathered size mem vs xs size 0 column emptyRow → end ≡ shown mem row best
-      → end ≡ renewed mem vs xs size v row column
+module _ (mem list : List ℕ) (count size v row column : ℕ) where
+  pub renewed-shown : (best : Row) (end : List ℕ) → getD mem row 0 ≡ v → best ≡ gathered count mem list size column 0 emptyRow → end ≡ shown mem row best
+      → end ≡ renewed mem list count size v row column
   unfolding renewed
   renewed-shown best end same p e = rw (eq-eqb (getD mem row 0) v same) (e ∙ ap (shown mem row) p)
 
-  pub renewed-other : (getD mem row 0 ≡ v → ⊥) → mem ≡ renewed mem vs xs size v row column
+  pub renewed-other : (getD mem row 0 ≡ v → ⊥) → mem ≡ renewed mem list count size v row column
   unfolding renewed
   renewed-other other = rw (ne-eqb (getD mem row 0) v other)
 
-pub departed-turn : (n left : ℕ) (mem end vs xs : List ℕ) (size v row column : ℕ) → left ≡ suc n → end ≡ renewed mem vs xs size v row column
-    → departed n end vs xs size v (row + 4) (column + 1) ≡ departed left mem vs xs size v row column
+pub departed-turn : (n left : ℕ) (mem end list : List ℕ) (count size v row column : ℕ) → left ≡ suc n → end ≡ renewed mem list count size v row column
+    → departed n end list count size v (row + 4) (column + 1) ≡ departed left mem list count size v row column
 unfolding departed
-departed-turn n left mem end vs xs size v row column e q = rw e (ap (λ (l : List ℕ). departed n l vs xs size v (row + 4) (column + 1)) q)
+departed-turn n left mem end list count size v row column e q = rw e (ap (λ (l : List ℕ). departed n l list count size v (row + 4) (column + 1)) q)
 
-pub departed-done : (left : ℕ) (mem vs xs : List ℕ) (size v row column : ℕ) → left ≤ 0 → departed left mem vs xs size v row column ≡ mem
+pub departed-done : (left : ℕ) (mem list : List ℕ) (count size v row column : ℕ) → left ≤ 0 → departed left mem list count size v row column ≡ mem
 unfolding departed
-departed-done zero mem vs xs size v row column none = refl
-departed-done (suc n) mem vs xs size v row column none = absurd (omega arith)
+departed-done zero mem list count size v row column none = refl
+departed-done (suc n) mem list count size v row column none = absurd (omega arith)
 
 -- One part.
 module _ (mem : List ℕ) (rows table size v : ℕ) where
@@ -188,14 +213,14 @@ module _ (mem : List ℕ) (rows table size v : ℕ) where
   departed-none any e none = (rw (sym e ∙ none), sym none ∙ e)
 
   pub departed-some : (any : Bool) (end : List ℕ) → any ≡ anyShows size mem v rows → any ≡ true
-      → end ≡ departed size mem (sources mem 0 rows size) (sources mem 1 rows size) size v rows table → (end ≡ changed mem rows table size v false) × (true ≡ touches mem rows table size v false)
+      → end ≡ departed size mem (sources mem rows size) (sourceCount mem rows size) size v rows table → (end ≡ changed mem rows table size v false) × (true ≡ touches mem rows table size v false)
   unfolding changed touches
   departed-some any end e some h = (rw (sym e ∙ some) h, sym some ∙ e)
 
-  pub departed-all : (vs xs end : List ℕ) → vs ≡ listed size (replicate 128 0) mem 0 rows 0 → xs ≡ listed size (replicate 128 0) mem 1 rows 0 → end ≡ departed size mem vs xs size v rows table
-      → end ≡ departed size mem (sources mem 0 rows size) (sources mem 1 rows size) size v rows table
-  unfolding sources
-  departed-all vs xs end p q h = h ∙ λ t. departed size mem (p t) (q t) size v rows table
+  pub departed-all : (list end : List ℕ) (count : ℕ) → list ≡ listed size (replicate 384 0) mem rows 0 0 → count ≡ listedCount size mem rows 0 → end ≡ departed size mem list count size v rows table
+      → end ≡ departed size mem (sources mem rows size) (sourceCount mem rows size) size v rows table
+  unfolding sources sourceCount
+  departed-all list end count p q h = h ∙ λ t. departed size mem (p t) (q t) size v rows table
 
 -- A part's record.
 module _ (mem : List ℕ) (p : ℕ) where

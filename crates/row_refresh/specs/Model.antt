@@ -64,27 +64,45 @@ unfoldable pub anyShows : ℕ → List ℕ → ℕ → ℕ → Bool
 anyShows zero mem v row = false
 anyShows (suc left) mem v row = eqb (word mem row) v || anyShows left mem v (row + 4)
 
--- word w of the sources of `left` rows from `row` on, in a list from entry i on
+-- A list of sources that are not empty, with three words for each: its vertex, its distance, and its number among the part's rows.
+
+-- source number i, written down as entry n
+unfoldable pub noted : List ℕ → ℕ → Row → ℕ → List ℕ
+noted list n source i = cond (ltb (source .distance) FAR) (set (shown list (3 * n) source) (3 * n + 2) i) list
+
+unfoldable pub notedCount : ℕ → Row → ℕ
+notedCount n source = cond (ltb (source .distance) FAR) (n + 1) n
+
+-- this for `left` rows from `row` on, the first of them with number i
 unfoldable pub listed : ℕ → List ℕ → List ℕ → ℕ → ℕ → ℕ → List ℕ
-listed zero list mem w row i = list
-listed (suc left) list mem w row i = listed left (set list i (word mem (word mem (row + 3) + w))) mem w (row + 4) (i + 1)
+listed zero list mem row i n = list
+listed (suc left) list mem row i n = listed left (noted list n (sourceIn mem row) i) mem (row + 4) (i + 1) (notedCount n (sourceIn mem row))
 
-unfoldable pub sources : List ℕ → ℕ → ℕ → ℕ → List ℕ
-sources mem w rows size = listed size (replicate 128 0) mem w rows 0
+unfoldable pub listedCount : ℕ → List ℕ → ℕ → ℕ → ℕ
+listedCount zero mem row n = n
+listedCount (suc left) mem row n = listedCount left mem (row + 4) (notedCount n (sourceIn mem row))
 
--- the nearest of a row and of `left` sources from number i on, with the distances that stand from `at` on, `size` apart
-unfoldable pub gathered : ℕ → List ℕ → List ℕ → List ℕ → ℕ → ℕ → ℕ → Row → Row
-gathered zero mem vs xs size i at best = best
-gathered (suc left) mem vs xs size i at best = gathered left mem vs xs size (i + 1) (at + size) (offeredTo best (word vs i) (word xs i) (word mem at))
+-- the list that a part's sources make
+unfoldable pub sources : List ℕ → ℕ → ℕ → List ℕ
+sources mem rows size = listed size (replicate 384 0) mem rows 0 0
 
--- a row that shows v is made anew from all `size` sources, with a column of the table
-unfoldable pub renewed : List ℕ → List ℕ → List ℕ → ℕ → ℕ → ℕ → ℕ → List ℕ
-renewed mem vs xs size v row column = cond (eqb (word mem row) v) (shown mem row (gathered size mem vs xs size 0 column emptyRow)) mem
+unfoldable pub sourceCount : List ℕ → ℕ → ℕ → ℕ
+sourceCount mem rows size = listedCount size mem rows 0
+
+-- the nearest of a row and of `left` listed sources from `from` on, with the distances that stand in a column of the table
+unfoldable pub gathered : ℕ → List ℕ → List ℕ → ℕ → ℕ → ℕ → Row → Row
+gathered zero mem list size column from best = best
+gathered (suc left) mem list size column from best =
+    gathered left mem list size column (from + 3) (offeredTo best (word list from) (word list (from + 1)) (word mem (column + word list (from + 2) * size)))
+
+-- a row that shows v is made anew from `count` listed sources, with a column of the table
+unfoldable pub renewed : List ℕ → List ℕ → ℕ → ℕ → ℕ → ℕ → ℕ → List ℕ
+renewed mem list count size v row column = cond (eqb (word mem row) v) (shown mem row (gathered count mem list size column 0 emptyRow)) mem
 
 -- v departed: this for `left` rows from `row` on, with the columns of the table from `column` on
-unfoldable pub departed : ℕ → List ℕ → List ℕ → List ℕ → ℕ → ℕ → ℕ → ℕ → List ℕ
-departed zero mem vs xs size v row column = mem
-departed (suc left) mem vs xs size v row column = departed left (renewed mem vs xs size v row column) vs xs size v (row + 4) (column + 1)
+unfoldable pub departed : ℕ → List ℕ → List ℕ → ℕ → ℕ → ℕ → ℕ → ℕ → List ℕ
+departed zero mem list count size v row column = mem
+departed (suc left) mem list count size v row column = departed left (renewed mem list count size v row column) list count size v (row + 4) (column + 1)
 
 -- One part: what it is by its record.
 
@@ -103,7 +121,7 @@ fits mem rows table size = leb (rows + 4 * size) (length mem) && leb (table + si
 unfoldable pub changed : List ℕ → ℕ → ℕ → ℕ → ℕ → Bool → List ℕ
 changed mem rows table size v is =
     cond is (arrived size mem rows size v rows table)
-    (cond (anyShows size mem v rows) (departed size mem (sources mem 0 rows size) (sources mem 1 rows size) size v rows table) mem)
+    (cond (anyShows size mem v rows) (departed size mem (sources mem rows size) (sourceCount mem rows size) size v rows table) mem)
 
 -- whether any row may have changed
 unfoldable pub touches : List ℕ → ℕ → ℕ → ℕ → ℕ → Bool → Bool

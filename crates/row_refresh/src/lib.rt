@@ -9,7 +9,7 @@ ghost use mathlib.Core.Bool.{true, false, _||_};
 ghost use Prim.Native.Nat.{_+_, _*_, _≤_, _<_};
 ghost use lib.ListN.{length};
 ghost use Rattle.rows.specs.Row.{emptyRow};
-ghost use Rattle.row_refresh.specs.Model.{rowIn, shown, sourceIn, offeredTo, offered, spread, isNews, met, arrived, anyNews, anyShows, listed, sources, gathered, renewed, departed, rowsHere, fits, changed, touches, refreshed, touched, refreshedUp, ownRow, vertexAt, switched};
+ghost use Rattle.row_refresh.specs.Model.{rowIn, shown, sourceIn, offeredTo, offered, spread, isNews, met, arrived, anyNews, anyShows, noted, notedCount, listed, listedCount, sources, sourceCount, gathered, renewed, departed, rowsHere, fits, changed, touches, refreshed, touched, refreshedUp, ownRow, vertexAt, switched};
 
 const MOST_ROWS: usize = 128;
 
@@ -128,23 +128,36 @@ fn some_shows(mem: &[u32], rows: usize, size: usize, v: u32) -> bool
     false
 }
 
-// The sources of `size` rows: their vertices and their distances.
-fn list_sources(mem: &[u32], rows: usize, size: usize, vs: &mut [u32], xs: &mut [u32])
+// Source number i of a part, written down as entry n if it is not empty. Says how many entries there are then.
+fn note(list: &mut [u32], n: usize, s: Row, i: u32) -> usize
+    requires { ⌜ n < 4294967296 ⌝ }
+    ensures { λ r. ⌜ (now (list .exit) ≡ noted (now (list .entry)) n s i) × (r ≡ notedCount n s) × (r ≤ n + 1) ⌝ }
+{
+    if s.distance < Row::FAR {
+        show(list, 3 * n, s);
+        put(list, 3 * n + 2, i);
+        return n + 1;
+    }
+    n
+}
+
+// The sources of `size` rows that are not empty. Says how many there are.
+fn list_sources(mem: &[u32], rows: usize, size: usize, list: &mut [u32]) -> usize
     requires { ⌜ (rows < 4294967296) × (size ≤ 128) ⌝ }
-    ensures vertices { λ _. ⌜ now (vs .exit) ≡ listed size (now (vs .entry)) (now (mem .entry)) 0 rows 0 ⌝ }
-    ensures distances { λ _. ⌜ now (xs .exit) ≡ listed size (now (xs .entry)) (now (mem .entry)) 1 rows 0 ⌝ }
+    ensures { λ r. ⌜ (now (list .exit) ≡ listed size (now (list .entry)) (now (mem .entry)) rows 0 0) × (r ≡ listedCount size (now (mem .entry)) rows 0) × (r ≤ size) ⌝ }
 {
     let mut row = rows;
-    let mut i = 0;
+    let mut i: u32 = 0;
+    let mut n = 0;
     let mut left = size;
     while 0 < left {
-        let below = wide(word(mem, row + 3));
-        put(vs, i, word(mem, below));
-        put(xs, i, word(mem, below + 1));
+        let s = source(mem, row);
+        n = note(list, n, s, i);
         row += 4;
         i += 1;
         left -= 1;
     }
+    n
 }
 
 // The nearer of a row and of vertex v at distance x, seen d further on.
@@ -160,31 +173,38 @@ fn nearer_of(best: Row, v: u32, x: u32, d: u32) -> Row
     best
 }
 
-// The nearest source, with the distances of a column of the table.
-fn gather(mem: &[u32], vs: &[u32], xs: &[u32], size: usize, column: usize) -> Row
-    requires { ⌜ (column + size * size < length (now mem) + size) × (size ≤ length (now vs)) × (size ≤ length (now xs)) × (column < 8589934592) × (size ≤ 128) ⌝ }
-    ensures { λ r. ⌜ r ≡ gathered size (now (mem .entry)) (now (vs .entry)) (now (xs .entry)) size 0 column emptyRow ⌝ }
+// The nearest of `count` listed sources, with the distances of a column of the table.
+fn gather(mem: &[u32], list: &[u32], count: usize, size: usize, column: usize) -> Row
+    requires { ⌜ (3 * count ≤ length (now list)) × (column < 8589934592) × (size ≤ 128) ⌝ }
+    ensures { λ r. ⌜ r ≡ gathered count (now (mem .entry)) (now (list .entry)) size column 0 emptyRow ⌝ }
 {
     let mut best = Row::empty();
-    let mut i = 0;
-    let mut at = column;
-    let mut left = size;
+    let mut from = 0;
+    let mut left = count;
     while 0 < left {
-        best = nearer_of(best, vs[i], xs[i], mem[at]);
-        i += 1;
-        at += size;
+        let d = word(mem, column + wide(word(list, from + 2)) * size);
+        best = nearer_of(best, list[from], list[from + 1], d);
+        from += 3;
         left -= 1;
     }
     best
 }
 
 // A row that shows v is made anew.
-fn renew(mem: &mut [u32], vs: &[u32], xs: &[u32], size: usize, v: u32, row: usize, column: usize)
-    requires { ⌜ (row + 1 < length (now mem)) × (column + size * size < length (now mem) + size) × (size ≤ length (now vs)) × (size ≤ length (now xs)) × (column < 8589934592) × (size ≤ 128) × (row < 281474976710656) ⌝ }
-    ensures { λ _. ⌜ now (mem .exit) ≡ renewed (now (mem .entry)) (now (vs .entry)) (now (xs .entry)) size v row column ⌝ }
+fn renew(
+    mem: &mut [u32],
+    list: &[u32],
+    count: usize,
+    size: usize,
+    v: u32,
+    row: usize,
+    column: usize,
+)
+    requires { ⌜ (row < length (now mem)) × (3 * count ≤ length (now list)) × (row < 281474976710656) × (column < 8589934592) × (size ≤ 128) ⌝ }
+    ensures { λ _. ⌜ now (mem .exit) ≡ renewed (now (mem .entry)) (now (list .entry)) count size v row column ⌝ }
 {
     if mem[row] == v {
-        let best = gather(mem, vs, xs, size, column);
+        let best = gather(mem, list, count, size, column);
         show(mem, row, best);
     }
 }
@@ -192,21 +212,21 @@ fn renew(mem: &mut [u32], vs: &[u32], xs: &[u32], size: usize, v: u32, row: usiz
 // Each of `size` rows that shows v is made anew.
 fn renew_all(
     mem: &mut [u32],
-    vs: &[u32],
-    xs: &[u32],
+    list: &[u32],
+    count: usize,
     size: usize,
     v: u32,
     rows: usize,
     table: usize,
 )
-    requires { ⌜ (rows + 4 * size ≤ length (now mem)) × (table + size * size ≤ length (now mem)) × (size ≤ length (now vs)) × (size ≤ length (now xs)) × (rows < 4294967296) × (table < 4294967296) × (size ≤ 128) ⌝ }
-    ensures { λ _. ⌜ now (mem .exit) ≡ departed size (now (mem .entry)) (now (vs .entry)) (now (xs .entry)) size v rows table ⌝ }
+    requires { ⌜ (rows + 4 * size ≤ length (now mem)) × (3 * count ≤ length (now list)) × (rows < 4294967296) × (table < 4294967296) × (size ≤ 128) ⌝ }
+    ensures { λ _. ⌜ now (mem .exit) ≡ departed size (now (mem .entry)) (now (list .entry)) count size v rows table ⌝ }
 {
     let mut row = rows;
     let mut column = table;
     let mut left = size;
     while 0 < left {
-        renew(mem, vs, xs, size, v, row, column);
+        renew(mem, list, count, size, v, row, column);
         row += 4;
         column += 1;
         left -= 1;
@@ -215,13 +235,12 @@ fn renew_all(
 
 // Each row that shows v is made anew from the part's sources as they stand.
 fn renew_part(mem: &mut [u32], rows: usize, table: usize, size: usize, v: u32)
-    requires { ⌜ (rows + 4 * size ≤ length (now mem)) × (table + size * size ≤ length (now mem)) × (rows < 4294967296) × (table < 4294967296) × (size ≤ 128) ⌝ }
-    ensures { λ _. ⌜ now (mem .exit) ≡ departed size (now (mem .entry)) (sources (now (mem .entry)) 0 rows size) (sources (now (mem .entry)) 1 rows size) size v rows table ⌝ }
+    requires { ⌜ (rows + 4 * size ≤ length (now mem)) × (rows < 4294967296) × (table < 4294967296) × (size ≤ 128) ⌝ }
+    ensures { λ _. ⌜ now (mem .exit) ≡ departed size (now (mem .entry)) (sources (now (mem .entry)) rows size) (sourceCount (now (mem .entry)) rows size) size v rows table ⌝ }
 {
-    let mut vs = [0u32; 128];
-    let mut xs = [0u32; 128];
-    list_sources(mem, rows, size, &mut vs, &mut xs);
-    renew_all(mem, &vs, &xs, size, v, rows, table);
+    let mut list = [0u32; 384];
+    let count = list_sources(mem, rows, size, &mut list);
+    renew_all(mem, &list, count, size, v, rows, table);
 }
 
 // v departed from a part with these rows and this table. Says whether any row showed it.

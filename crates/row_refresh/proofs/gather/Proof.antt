@@ -1,94 +1,92 @@
 -- `row_refresh::gather` is `gathered`: what is left to gather from here stays the whole.
 use mathlib.Core.Path.{_≡_, refl, sym, _∙_, ap}
-use Prim.Native.Nat.{_+_, _-_, _*_, _≤_, _<_}
+use Prim.Native.Nat.{_+_, _*_, _≤_}
 use lib.ListN.{length}
 use Rattle.rows.specs.declared.Row.{Row}
-use Rattle.row_refresh.specs.Model.{gathered}
-use Rattle.row_refresh.proofs.Chain.{line-less, gathered-turn, gathered-done}
 use Rattle.rows.specs.Row.{emptyRow}
+use Rattle.row_refresh.specs.Model.{gathered}
+use Rattle.row_refresh.proofs.Chain.{times-most, gathered-turn, gathered-done}
 use borrow.Author.Needs.{needs}
 use native.Mathlib.Omega.{arith}
 use Rattle.row_refresh.proofs.gather.Statement.{statement}
 use Rattle.row_refresh.proofs.gather.Tie as tie
 
 abbrev Inv-loop : tie.InvT-loop
-Inv-loop mem vs xs size column best₀ i₀ at₀ left₀ best i at left = (i + left ≡ size) × (at + 128 * left ≤ 8589934592 + 16384) × (at + size * left < length mem + size) × (gathered left mem vs xs size i at best ≡ gathered size mem vs xs size 0 column emptyRow)
+Inv-loop mem list count size column best₀ from₀ left₀ best from left = (from + 3 * left ≡ 3 * count) × (gathered left mem list size column from best ≡ gathered count mem list size column 0 emptyRow)
 
 abbrev μ-loop : tie.MeasureT-loop
-μ-loop mem vs xs size column best₀ i₀ at₀ left₀ best i at left = left
+μ-loop mem list count size column best₀ from₀ left₀ best from left = left
 
 empty-requires : tie.Need-empty-requires Inv-loop μ-loop
 empty-requires c κs = search needs
 
 loop-holds : tie.Need-loop-holds Inv-loop μ-loop
 loop-holds c =
-    let args′ = c .before .before .before .before .args in
-    (omega arith, omega arith, omega arith, ap (λ (row : Row). gathered (args′ .size) (args′ .mem .now) (args′ .vs .now) (args′ .xs .now) (args′ .size) 0 (args′ .column) row) (c .empty .ensures))
+    let args′ = c .before .before .before .args in
+    (omega arith, ap (λ (row : Row). gathered (args′ .count) (args′ .mem .now) (args′ .list .now) (args′ .size) (args′ .column) 0 row) (c .empty .ensures))
+
+add-word : tie.Need-add-word Inv-loop μ-loop
+add-word c = omega arith
+
+word-requires : tie.Need-word-requires Inv-loop μ-loop
+word-requires c κs = search needs
+
+wide-requires : tie.Need-wide-requires Inv-loop μ-loop
+wide-requires c κs = search needs
+
+mul-word : tie.Need-mul-word Inv-loop μ-loop
+mul-word c =
+    let args′ = c .before .before .before .before .before .before .before .args in
+    record { fits = omega (arith, times-most (c .wide .result) (args′ .size) (omega arith)) }
+
+add-word-2 : tie.Need-add-word-2 Inv-loop μ-loop
+add-word-2 c =
+    let args′ = c .before .before .before .before .before .before .before .args in
+    record { fits = omega (arith, times-most (c .wide .result) (args′ .size) (omega arith)) }
+
+word-requires-2 : tie.Need-word-requires-2 Inv-loop μ-loop
+word-requires-2 c κs = search needs
 
 mul-nearer-of : tie.Need-mul-nearer-of Inv-loop μ-loop
 mul-nearer-of c = search needs
 
 shared-slice-read-nearer-of : tie.Need-shared-slice-read-nearer-of Inv-loop μ-loop
-shared-slice-read-nearer-of c =
-    let args′ = c .before .before .before .before .before .before .before .args in
-    let loop′ = c .before .before .loop in
-    omega (arith, line-less (args′ .size) (loop′ .left) (loop′ .left - 1) (omega arith))
+shared-slice-read-nearer-of c = omega arith
+
+add-nearer-of : tie.Need-add-nearer-of Inv-loop μ-loop
+add-nearer-of c = omega arith
 
 mul-nearer-of-2 : tie.Need-mul-nearer-of-2 Inv-loop μ-loop
 mul-nearer-of-2 c = search needs
 
 shared-slice-read-nearer-of-2 : tie.Need-shared-slice-read-nearer-of-2 Inv-loop μ-loop
-shared-slice-read-nearer-of-2 c =
-    let args′ = c .before .before .before .before .before .before .before .before .args in
-    let loop′ = c .before .before .before .loop in
-    omega (arith, line-less (args′ .size) (loop′ .left) (loop′ .left - 1) (omega arith))
-
-mul-nearer-of-3 : tie.Need-mul-nearer-of-3 Inv-loop μ-loop
-mul-nearer-of-3 c = search needs
-
-shared-slice-read-nearer-of-3 : tie.Need-shared-slice-read-nearer-of-3 Inv-loop μ-loop
-shared-slice-read-nearer-of-3 c =
-    let args′ = c .before .before .before .before .before .before .before .before .before .args in
-    let loop′ = c .before .before .before .before .loop in
-    omega (arith, line-less (args′ .size) (loop′ .left) (loop′ .left - 1) (omega arith))
+shared-slice-read-nearer-of-2 c = omega arith
 
 nearer-of-requires : tie.Need-nearer-of-requires Inv-loop μ-loop
 nearer-of-requires c κs = search needs
 
-add-i : tie.Need-add-i Inv-loop μ-loop
-add-i c =
-    let args′ = c .before .before .before .before .before .before .before .before .before .before .args in
-    let loop′ = c .before .before .before .before .before .loop in
-    omega (arith, line-less (args′ .size) (loop′ .left) (loop′ .left - 1) (omega arith))
-
-add-at : tie.Need-add-at Inv-loop μ-loop
-add-at c =
-    let args′ = c .before .before .before .before .before .before .before .before .before .before .args in
-    let loop′ = c .before .before .before .before .before .loop in
-    omega (arith, line-less (args′ .size) (loop′ .left) (loop′ .left - 1) (omega arith))
+add-from : tie.Need-add-from Inv-loop μ-loop
+add-from c = omega arith
 
 sub-left : tie.Need-sub-left Inv-loop μ-loop
-sub-left c =
-    let args′ = c .before .before .before .before .before .before .before .before .before .before .args in
-    let loop′ = c .before .before .before .before .before .loop in
-    omega (arith, line-less (args′ .size) (loop′ .left) (loop′ .left - 1) (omega arith))
+sub-left c = omega arith
 
 loop-less : tie.Need-loop-less Inv-loop μ-loop
-loop-less c =
-    let args′ = c .before .before .before .before .before .before .before .before .before .before .args in
-    let loop′ = c .before .before .before .before .before .loop in
-    omega (arith, line-less (args′ .size) (loop′ .left) (loop′ .left - 1) (omega arith))
+loop-less c = omega arith
 
 loop-again : tie.Need-loop-again Inv-loop μ-loop
 loop-again c =
-    let args′ = c .before .before .before .before .before .before .before .before .before .before .args in
-    let loop′ = c .before .before .before .before .before .loop in
-    (omega arith, omega arith, omega (arith, line-less (args′ .size) (loop′ .left) (loop′ .left - 1) (omega arith)), gathered-turn _ (loop′ .left) (args′ .mem .now) (args′ .vs .now) (args′ .xs .now) (args′ .size) (loop′ .i) (loop′ .at) (loop′ .best) _ (omega arith) (c .nearer-of .ensures) ∙ loop′ .inv .3)
+    let loop′ = c .before .before .before .before .before .before .before .loop in
+    let args′ = c .before .before .before .before .before .before .before .before .before .before .before .args in
+    let word′ = c .before .before .before .before .before .word in
+    let wide′ = c .before .before .before .before .wide in
+    let word2′ = c .before .before .before .word2 in
+    (omega arith, gathered-turn _ (loop′ .left) (args′ .mem .now) (args′ .list .now) (args′ .size) (args′ .column) (loop′ .from) _ _ _ (loop′ .best) _ (omega arith) (word′ .ensures) (wide′ .ensures) (word2′ .ensures) (c .nearer-of .ensures) ∙ loop′ .inv .1)
 
 returns : tie.Need-returns Inv-loop μ-loop
 returns c =
-    let args′ = c .before .before .before .before .before .before .args in
-    sym (gathered-done (c .before .loop .left) (args′ .mem .now) (args′ .vs .now) (args′ .xs .now) (args′ .size) (c .before .loop .i) (c .before .loop .at) (c .before .loop .best) (c .loop-test .left)) ∙ c .before .loop .inv .3
+    let args′ = c .before .before .before .before .before .args in
+    sym (gathered-done (c .before .loop .left) (args′ .mem .now) (args′ .list .now) (args′ .size) (args′ .column) (c .before .loop .from) (c .before .loop .best) (c .loop-test .left)) ∙ c .before .loop .inv .1
 
 pub gather-spec : {M : Type 1} → statement M
 gather-spec =
@@ -98,15 +96,19 @@ gather-spec =
     μ-loop
     empty-requires
     loop-holds
+    add-word
+    word-requires
+    wide-requires
+    mul-word
+    add-word-2
+    word-requires-2
     mul-nearer-of
     shared-slice-read-nearer-of
+    add-nearer-of
     mul-nearer-of-2
     shared-slice-read-nearer-of-2
-    mul-nearer-of-3
-    shared-slice-read-nearer-of-3
     nearer-of-requires
-    add-i
-    add-at
+    add-from
     sub-left
     loop-less
     loop-again

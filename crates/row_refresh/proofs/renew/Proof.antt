@@ -1,6 +1,5 @@
 -- `row_refresh::renew` is `renewed`.
 use Rattle.row_refresh.proofs.Chain.{renewed-shown, renewed-other}
-use native.Mathlib.Omega.{arith}
 use borrow.Author.Needs.{needs}
 use Rattle.row_refresh.proofs.renew.Statement.{statement}
 use Rattle.row_refresh.proofs.renew.Tie as tie
@@ -22,16 +21,16 @@ same-length c = search needs
 
 returns : tie.Need-returns
 returns c =
-    let args′ = c .before .before .before .before .before .before .before .before .before .before .before .args in
+    let args′ = c .before .before .before .before .before .before .before .before .before .before .args in
     let if1′ = c .before .before .before .before .before .before .if1 in
     let gather′ = c .before .before .before .before .gather in
     let show′ = c .before .before .show in
-    renewed-shown (args′ .mem .now) (args′ .vs .now) (args′ .xs .now) (args′ .size) (args′ .v) (args′ .row) (args′ .column) _ _ (if1′ .taken) (gather′ .ensures) (show′ .ensures)
+    renewed-shown (args′ .mem .now) (args′ .list .now) (args′ .count) (args′ .size) (args′ .v) (args′ .row) (args′ .column) _ _ (if1′ .taken) (gather′ .ensures) (show′ .ensures)
 
 returns-2 : tie.Need-returns-2
 returns-2 c =
-    let args′ = c .before .before .before .before .before .args in
-    renewed-other (args′ .mem .now) (args′ .vs .now) (args′ .xs .now) (args′ .size) (args′ .v) (args′ .row) (args′ .column) (c .if1 .left)
+    let args′ = c .before .before .before .before .args in
+    renewed-other (args′ .mem .now) (args′ .list .now) (args′ .count) (args′ .size) (args′ .v) (args′ .row) (args′ .column) (c .if1 .left)
 
 pub renew-spec : {M : Type 1} → statement M
 renew-spec =

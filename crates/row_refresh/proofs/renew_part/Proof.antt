@@ -1,5 +1,6 @@
 -- `row_refresh::renew_part` is `departed`, with the sources as they stand.
 use Rattle.row_refresh.proofs.Chain.{departed-all}
+use native.Mathlib.Omega.{arith}
 use borrow.Author.Needs.{needs}
 use Rattle.row_refresh.proofs.renew_part.Statement.{statement}
 use Rattle.row_refresh.proofs.renew_part.Tie as tie
@@ -7,17 +8,11 @@ use Rattle.row_refresh.proofs.renew_part.Tie as tie
 slice-aggregate-list-sources : tie.Need-slice-aggregate-list-sources
 slice-aggregate-list-sources c = search needs
 
-slice-aggregate-list-sources-2 : tie.Need-slice-aggregate-list-sources-2
-slice-aggregate-list-sources-2 c = search needs
-
 list-sources-requires : tie.Need-list-sources-requires
 list-sources-requires c κs = search needs
 
 slice-aggregate-renew-all : tie.Need-slice-aggregate-renew-all
 slice-aggregate-renew-all c = search needs
-
-slice-aggregate-renew-all-2 : tie.Need-slice-aggregate-renew-all-2
-slice-aggregate-renew-all-2 c = search needs
 
 renew-all-requires : tie.Need-renew-all-requires
 renew-all-requires c κs = search needs
@@ -27,8 +22,8 @@ same-length c = search needs
 
 returns : tie.Need-returns
 returns c =
-    let args′ = c .before .before .before .before .before .before .before .before .before .before .before .before .before .args in
-    let list-sources′ = c .before .before .before .before .before .before .before .before .list-sources in
+    let args′ = c .before .before .before .before .before .before .before .before .before .before .args in
+    let list-sources′ = c .before .before .before .before .before .before .list-sources in
     let renew-all′ = c .before .before .renew-all in
     departed-all (args′ .mem .now) (args′ .rows) (args′ .table) (args′ .size) (args′ .v) _ _ _ (list-sources′ .ensures .0) (list-sources′ .ensures .1) (renew-all′ .ensures)
 
@@ -37,10 +32,8 @@ renew-part-spec =
     tie.close
     (tie.spec
     slice-aggregate-list-sources
-    slice-aggregate-list-sources-2
     list-sources-requires
     slice-aggregate-renew-all
-    slice-aggregate-renew-all-2
     renew-all-requires
     same-length
     returns)
