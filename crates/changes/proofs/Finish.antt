@@ -34,7 +34,6 @@ use Rattle.refusals.proofs.Later.{Later, judged-later}
 use Rattle.changes.specs.Made.{counted, settled}
 use Rattle.changes.specs.Done.{Done}
 use Rattle.changes.proofs.Reading.{countsOf, counts-read, count-read, image-roads, image-weights, van-read}
-use Rattle.changes.proofs.OneVan.{SwitchLaw}
 use Rattle.changes.proofs.Whole.{OnMap, image-settled}
 
 -- a step by the refusal that is known
@@ -75,7 +74,7 @@ module _ (mem : List ℕ) (c : Change) (counts : Counts) (van : ℕ) (old : VanW
         neither = subst Later is (judged-later mem counts old c verdict j);
       }
 
-  module _ (laws : (m : Map) → Sound m → SwitchLaw m) (w : VanWords) (is : verdict ≡ Stand w) (r : Reply) (after : List ℕ)
+  module _ (w : VanWords) (is : verdict ≡ Stand w) (r : Reply) (after : List ℕ)
       (answer : r ≡ counted (word mem 5)) (words : after ≡ settled mem counts van old w) where
     used-up : word mem 5 ≡ lastCount → (r ≡ CountUsedUp) × (after ≡ mem)
     unfolding settled
@@ -105,7 +104,7 @@ module _ (mem : List ℕ) (c : Change) (counts : Counts) (van : ℕ) (old : VanW
           ap answered (goes (λ z. more (sym count ∙ z))) ∙ ap (λ (k : ℕ). accepted (k + 1)) count ∙ ap (λ (k : Stepped). k .answer) (sym by),
           words
               ∙ (λ i. settled (e i) (counts-are m s sound good e ok i) (read .van-is i) (old-are m s sound good e ok i) w)
-              ∙ image-settled m sound (laws m sound) s (good .slots) (vanOf c) (van-in-range c ok) w new (a .1 (s .count + 1)) (λ v there. good .van (vanOf c) v there .road) on-map more
+              ∙ image-settled m sound s (good .slots) (vanOf c) (van-in-range c ok) w new (a .1 (s .count + 1)) (λ v there. good .van (vanOf c) v there .road) on-map more
               ∙ ap (λ (k : Stepped). image m (k .state)) (sym by),
         )
           where

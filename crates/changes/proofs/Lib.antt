@@ -2,7 +2,6 @@
 pub mod Chain
 pub mod Reading
 pub mod Between
-pub mod Same
 pub mod OneVan
 pub mod Whole
 pub mod Finish

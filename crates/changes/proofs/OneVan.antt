@@ -1,7 +1,7 @@
 -- One van stands anew in the words of a map and a fleet: they are the words of the fleet in which it stands so, rows included.
 -- Assumes nothing.
 use mathlib.Core.Path.{_≡_, refl, sym, ap, _∙_}
-use mathlib.Core.Bool.{Bool, true, false, not}
+use mathlib.Core.Bool.{true, false, not}
 use mathlib.Core.List.{List}
 use Prim.Native.Nat.{ℕ, _+_, _<_}
 use native.Mathlib.Omega.{arith}
@@ -12,6 +12,7 @@ use borrow.Author.Tests.{eq-eqb, ne-eqb}
 use Rattle.words.specs.Limits.{vans}
 use Rattle.words.specs.Lists.{word}
 use Rattle.roads.specs.Map.{Map}
+use Rattle.maps.specs.Sound.{Sound}
 use Rattle.places.specs.Place.{vertexAt}
 use Rattle.fleet.specs.State.{Slot, State, slotOf, headsFor, active}
 use Rattle.image.specs.Image.{image}
@@ -22,17 +23,11 @@ use Rattle.van_lists.proofs.Links.{withSlot, headsAt, linkFrom, link-found, act
 use Rattle.van_lists.proofs.Parked.{Parked}
 use Rattle.van_lists.proofs.Relink.{slot-new, slots-kept, link-elsewhere}
 use Rattle.van_lists.proofs.OneVan.{one-head, parked-kept, kept-only, parked-out, out-only, parked-in, in-only}
-use Rattle.row_changes.specs.Switch.{Switched}
-use Rattle.row_refresh.specs.Model.{switched}
 use Rattle.row_memory.specs.Old.{RowsOld}
+use Rattle.row_memory.proofs.Whole.{image-unswitched, image-switched}
 use Rattle.changes.specs.Made.{departed, arrived}
 use Rattle.changes.proofs.Reading.{countsOf, image-parked}
 use Rattle.changes.proofs.Between.{rows-old}
-use Rattle.changes.proofs.Same.{same-image}
-
-abbrev pub SwitchLaw : Map → Type 0
-SwitchLaw m = (s t : State) → length (s .vans) ≡ vans → length (t .vans) ≡ vans → (mem : List ℕ) → RowsOld m s t mem → (v : ℕ) → v < m .vertices → (is : Bool)
-    → Switched v is (active m s) (active m t) → switched mem v is ≡ image m t
 
 -- a vertex for which a free van heads is active
 active-by : (m : Map) (s : State) → length (s .vans) ≡ vans → (v n : ℕ) → n < vans → headsAt m s v n ≡ true → active m s v ≡ true
@@ -49,7 +44,7 @@ by-first m s v first e some = active-first m s v ∙ ap not (ne-eqb (linkFrom m 
 by-none : (m : Map) (s : State) (v first : ℕ) → first ≡ linkFrom m s v 0 → first ≡ 0 → active m s v ≡ false
 by-none m s v first e none = active-first m s v ∙ ap not (eq-eqb (linkFrom m s v 0) 0 (sym e ∙ none))
 
-module _ (m : Map) (law : SwitchLaw m) (s : State) (slots : length (s .vans) ≡ vans) (n : ℕ) (is-van : n < vans) (new : Slot) where
+module _ (m : Map) (sound : Sound m) (s : State) (slots : length (s .vans) ≡ vans) (n : ℕ) (is-van : n < vans) (new : Slot) where
   anew : length (withSlot s n new .vans) ≡ vans
   anew = slots-kept m s slots n is-van new
 
@@ -63,9 +58,9 @@ module _ (m : Map) (law : SwitchLaw m) (s : State) (slots : length (s .vans) ≡
 
   pub image-kept : ((v : ℕ) → headsFor m v new ≡ headsAt m s v n) → written (image m s) (countsOf m) n (wordsOf new) ≡ image m (withSlot s n new)
   image-kept same =
-      same-image m s (withSlot s n new) slots anew _
+      image-unswitched m s (withSlot s n new) slots anew _
       (rows-old m s (withSlot s n new) slots anew refl _ (parked-kept m (countsOf m) s slots (image m s) parked n is-van new same) (kept-only m (countsOf m) s slots (image m s) parked n is-van new))
-      (λ v. active-same v (same v))
+      (λ v vertex. active-same v (same v))
 
   module _ (p : ℕ) (vertex : p < m .vertices) where
     after-out : List ℕ
@@ -77,11 +72,11 @@ module _ (m : Map) (law : SwitchLaw m) (s : State) (slots : length (s .vans) ≡
         elim (ℕ-discrete (word after-out (vertexAt (countsOf m) p + 4)) 0) [
           | yes none ↦
               rw (eq-eqb (word after-out (vertexAt (countsOf m) p + 4)) 0 none)
-              (law s (withSlot s n new) slots anew after-out half p vertex false (record { here = by-none m (withSlot s n new) p _ first none; elsewhere = λ u away. elsewhere u away }))
+              (image-switched m s (withSlot s n new) slots anew after-out half p vertex false (record { here = by-none m (withSlot s n new) p _ first none; elsewhere = λ u away. elsewhere u away }) sound)
           | no some ↦
               rw (ne-eqb (word after-out (vertexAt (countsOf m) p + 4)) 0 some)
-              (same-image m s (withSlot s n new) slots anew after-out half
-              (λ v.
+              (image-unswitched m s (withSlot s n new) slots anew after-out half
+              (λ v is-vertex.
               elim (ℕ-discrete v p) [
                 | yes here ↦ rw here (active-by m s slots p n is-van was ∙ sym (by-first m (withSlot s n new) p _ first some))
                 | no away ↦ elsewhere v away
@@ -104,11 +99,11 @@ module _ (m : Map) (law : SwitchLaw m) (s : State) (slots : length (s .vans) ≡
     unfolding arrived
     image-arrived was there =
         elim (ℕ-discrete (word (image m s) (vertexAt (countsOf m) p + 4)) 0) [
-          | yes none ↦ rw (eq-eqb (word (image m s) (vertexAt (countsOf m) p + 4)) 0 none) (law s (withSlot s n new) slots anew _ half p vertex true (record { here = now; elsewhere = λ u away. elsewhere u away }))
+          | yes none ↦ rw (eq-eqb (word (image m s) (vertexAt (countsOf m) p + 4)) 0 none) (image-switched m s (withSlot s n new) slots anew _ half p vertex true (record { here = now; elsewhere = λ u away. elsewhere u away }) sound)
           | no some ↦
               rw (ne-eqb (word (image m s) (vertexAt (countsOf m) p + 4)) 0 some)
-              (same-image m s (withSlot s n new) slots anew _ half
-              (λ v. elim (ℕ-discrete v p) [ yes here ↦ rw here (by-first m s p _ (parked .first p vertex) some ∙ sym now) | no away ↦ elsewhere v away ]))
+              (image-unswitched m s (withSlot s n new) slots anew _ half
+              (λ v is-vertex. elim (ℕ-discrete v p) [ yes here ↦ rw here (by-first m s p _ (parked .first p vertex) some ∙ sym now) | no away ↦ elsewhere v away ]))
         ]
       where
         half : RowsOld m s (withSlot s n new) (putIn (image m s) (countsOf m) n p (wordsOf new))

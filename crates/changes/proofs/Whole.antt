@@ -27,7 +27,7 @@ use Rattle.changes.specs.Made.{arrived, made, settled}
 use Rattle.changes.proofs.Chain.{makes-kept, makes-moved, makes-departed, makes-arrived, makes-written}
 use Rattle.changes.proofs.Reading.{countsOf, count-read, image-roads}
 use Rattle.changes.proofs.Between.{withCount, count-image}
-use Rattle.changes.proofs.OneVan.{SwitchLaw, image-kept, image-departed, image-arrived}
+use Rattle.changes.proofs.OneVan.{image-kept, image-departed, image-arrived}
 
 -- the van in the slot, if there is one, is on a road of the map
 abbrev pub OnMap : Map → Slot → Type 0
@@ -68,7 +68,7 @@ kind m sound (present v) on = elim (ℕ-discrete (v .holder) 0) [ yes free ↦ i
           };
         }
 
-module _ (m : Map) (sound : Sound m) (law : SwitchLaw m) where
+module _ (m : Map) (sound : Sound m) where
   -- the end of a free van's road, in the words of the map
   end-read : (s : State) → length (s .vans) ≡ vans → (slot : Slot) (p : ℕ) → FreeFor m slot p → p ≡ endIn (image m s) (countsOf m) (wordsOf slot .road)
   end-read s slots slot p f = sym (f .end) ∙ sym (image-roads m s slots .end (wordsOf slot .road) (f .road))
@@ -81,7 +81,7 @@ module _ (m : Map) (sound : Sound m) (law : SwitchLaw m) where
     unfolding Made
     stays p f g =
         sym (makes-kept (image m s) (countsOf m) n (wordsOf (slotOf s n)) (wordsOf new) p p (end-read s slots (slotOf s n) p f) (end-read s slots new p g) _ (f .one) (g .one) refl refl)
-        ∙ image-kept m law s slots n is-van new same
+        ∙ image-kept m sound s slots n is-van new same
       where
         same : (v : ℕ) → headsFor m v new ≡ headsAt m s v n
         same v =
@@ -94,8 +94,8 @@ module _ (m : Map) (sound : Sound m) (law : SwitchLaw m) where
     unfolding Made
     goes-on p q f g other =
         sym (makes-moved (image m s) (countsOf m) n (wordsOf (slotOf s n)) (wordsOf new) p q (end-read s slots (slotOf s n) p f) (end-read s slots new q g) _ _ (f .one) (g .one) other refl refl)
-        ∙ ap (λ (l : List ℕ). arrived l (countsOf m) n q (wordsOf new)) (image-departed m law s slots n is-van absent p (f .vertex) (f .heads) (heads-absent m))
-        ∙ image-arrived m law (withSlot s n absent) (slots-kept m s slots n is-van absent) n is-van new q (g .vertex)
+        ∙ ap (λ (l : List ℕ). arrived l (countsOf m) n q (wordsOf new)) (image-departed m sound s slots n is-van absent p (f .vertex) (f .heads) (heads-absent m))
+        ∙ image-arrived m sound (withSlot s n absent) (slots-kept m s slots n is-van absent) n is-van new q (g .vertex)
         (λ v. ap (headsFor m v) (slot-new m s slots n is-van absent) ∙ heads-absent m v) (g .heads)
         ∙ ap (λ vans. image m (record { count = s .count; vans = vans })) (set-set (s .vans) n absent new)
 
@@ -108,13 +108,13 @@ module _ (m : Map) (sound : Sound m) (law : SwitchLaw m) where
         ]
     by-kinds (inl f) (inr i) =
         sym (makes-departed (image m s) (countsOf m) n (wordsOf (slotOf s n)) (wordsOf new) (f .head) _ (end-read s slots (slotOf s n) (f .head) (f .is)) refl _ (f .is .one) (i .not-one) refl)
-        ∙ image-departed m law s slots n is-van new (f .head) (f .is .vertex) (f .is .heads) (i .nowhere)
+        ∙ image-departed m sound s slots n is-van new (f .head) (f .is .vertex) (f .is .heads) (i .nowhere)
     by-kinds (inr i) (inl g) =
         sym (makes-arrived (image m s) (countsOf m) n (wordsOf (slotOf s n)) (wordsOf new) _ (g .head) refl (end-read s slots new (g .head) (g .is)) _ (i .not-one) (g .is .one) refl)
-        ∙ image-arrived m law s slots n is-van new (g .head) (g .is .vertex) (i .nowhere) (g .is .heads)
+        ∙ image-arrived m sound s slots n is-van new (g .head) (g .is .vertex) (i .nowhere) (g .is .heads)
     by-kinds (inr i) (inr j) =
         sym (makes-written (image m s) (countsOf m) n (wordsOf (slotOf s n)) (wordsOf new) _ _ refl refl _ (i .not-one) (j .not-one) refl)
-        ∙ image-kept m law s slots n is-van new (λ v. j .nowhere v ∙ sym (i .nowhere v))
+        ∙ image-kept m sound s slots n is-van new (λ v. j .nowhere v ∙ sym (i .nowhere v))
 
     pub image-made : OnMap m (slotOf s n) → OnMap m new → made (image m s) (countsOf m) n (wordsOf (slotOf s n)) (wordsOf new) ≡ image m (withSlot s n new)
     unfolding Made

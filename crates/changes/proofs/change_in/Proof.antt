@@ -51,7 +51,7 @@ returns-2 c =
     let judged = c .before .before .before .before .before .before .before .judged in
     let verdict2 = c .before .before .before .before .before .verdict2 in
     let settle = c .before .before .settle in
-    stands-done (a .mem .now) (a .change) _ _ _ (record { counts-is = counts-in .ensures; van-is = van-of .ensures; old-is = van-in .ensures }) (judged .result) (judged .ensures) ? _ (verdict2 .given .1) _ _ (settle .ensures .0) (settle .ensures .1)
+    stands-done (a .mem .now) (a .change) _ _ _ (record { counts-is = counts-in .ensures; van-is = van-of .ensures; old-is = van-in .ensures }) (judged .result) (judged .ensures) _ (verdict2 .given .1) _ _ (settle .ensures .0) (settle .ensures .1)
 
 pub change-in-spec : {M : Type 1} → statement M
 change-in-spec =
