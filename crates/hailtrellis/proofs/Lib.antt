@@ -1,0 +1,2 @@
+-- What is promised of the core, proved.
+pub mod Promises

@@ -1,0 +1,58 @@
+// The core's seven calls, for any bytes, numbers and memory. Each contract is one outcome record of the definitions
+// (crates/calls/specs/Outcome.antt); what follows for any run of calls is listed in proofs/Promises.antt.
+use answers::Reply;
+use fleet::Change;
+ghost use Rattle.answers.specs.Answered.{answered};
+ghost use Rattle.calls.specs.Outcome.{Opened, Added, Moved, Removed, Claimed, Released, Asked};
+
+// Places a free van.
+pub fn add(memory: &mut [u32], van: u32, from: u32, to: u32, offset: u32) -> Reply
+    ensures { λ r. ⌜ Added (now (memory .entry)) van from to offset (answered r) (now (memory .exit)) ⌝ }
+{
+    changes::change(
+        memory,
+        Change::Add {
+            van,
+            from,
+            to,
+            offset,
+        },
+    )
+}
+
+// Changes the place of a van, free or held.
+pub fn move_van(memory: &mut [u32], van: u32, from: u32, to: u32, offset: u32) -> Reply
+    ensures { λ r. ⌜ Moved (now (memory .entry)) van from to offset (answered r) (now (memory .exit)) ⌝ }
+{
+    changes::change(
+        memory,
+        Change::Move {
+            van,
+            from,
+            to,
+            offset,
+        },
+    )
+}
+
+// Takes out a free van.
+pub fn remove(memory: &mut [u32], van: u32) -> Reply
+    ensures { λ r. ⌜ Removed (now (memory .entry)) van (answered r) (now (memory .exit)) ⌝ }
+{
+    changes::change(memory, Change::Remove { van })
+}
+
+// Makes a free van held by a desk, if nothing has happened to it since it had this stamp.
+pub fn claim(memory: &mut [u32], van: u32, stamp: u32, desk: u32) -> Reply
+    ensures { λ r. ⌜ Claimed (now (memory .entry)) van stamp desk (answered r) (now (memory .exit)) ⌝ }
+{
+    changes::change(memory, Change::Claim { van, stamp, desk })
+}
+
+// Frees a van that the desk holds.
+pub fn release(memory: &mut [u32], van: u32, desk: u32) -> Reply
+    ensures { λ r. ⌜ Released (now (memory .entry)) van desk (answered r) (now (memory .exit)) ⌝ }
+{
+    changes::change(memory, Change::Release { van, desk })
+}
+

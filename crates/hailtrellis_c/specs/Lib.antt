@@ -1,0 +1,2 @@
+-- What a reply of the C functions stands for.
+pub mod Replied
