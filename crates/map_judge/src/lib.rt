@@ -22,6 +22,10 @@ ghost use Rattle.map_judge.specs.Asked.{asked, leavesAt, roadsAt, Limite
 ghost use Rattle.map_judge.specs.Need.{needOf};
 ghost use Rattle.map_judge.specs.Verdict.{told, ruled};
 
+const HEAD_WORDS: u32 = 64;
+
+const VANS: u32 = 1024;
+
 pub enum Judgement {
     // The map keeps every rule: its counts, and the words of memory that it needs.
     Sound(Counts, u32),
@@ -91,7 +95,7 @@ fn need(counts: Counts, sizes: &[u32; 512]) -> u32
     let vertices = counts.vertices;
     let roads = counts.roads;
     let parts = counts.parts;
-    let mut words = 64 + 8 * (parts + vertices) + 4 * roads + 8 * 1024;
+    let mut words = HEAD_WORDS + 8 * (parts + vertices) + 4 * roads + 8 * VANS;
     let mut p: u32 = 0;
     while p < parts {
         let size = sizes[p as usize];

@@ -69,6 +69,47 @@ fn dijkstra(graph: &Graph, a: usize, labels: &mut [u32], heap: &mut BinaryHeap<R
     }
 }
 
+/// Networks of many sizes, some of whose vertices cannot be reached: all labels from every vertex. And words that show no roads: refused.
+fn compare() {
+    let mut ours = [0; VERTICES];
+    let mut heap = BinaryHeap::new();
+    for (vertices, seed) in [(1, 1), (2, 1), (3, 2), (5, 3), (33, 4), (200, 5), (1000, 6)] {
+        let network = network(Plan { cut_off: 30, ..Plan::town(vertices) }, seed);
+        let (n, count) = (network.vertices(), network.roads.len());
+        let words = road_words(&network);
+        let graph = Graph::new(&network);
+        let mut theirs = vec![0; n];
+        for a in 0..n {
+            assert!(proved(&words, n, count, a, &mut ours));
+            dijkstra(&graph, a, &mut theirs, &mut heap);
+            assert_eq!(ours[..n], theirs[..], "labels from {a} of {n}");
+            assert!(ours[n..].iter().all(|&label| label == FAR));
+        }
+        let kept = ours;
+        let mut refused = |words: &RoadWords, n: usize, count: usize, a: usize| {
+            assert!(!proved(words, n, count, a, &mut ours));
+            assert_eq!(ours, kept, "a refused call changes no label");
+        };
+        refused(&words, n, count, n);
+        refused(&words, VERTICES + 1, count, 0);
+        refused(&words, n, count + 1, 0);
+        refused(&words, n, usize::MAX / 2, 0);
+        refused(&RoadWords { vertices_at: usize::MAX - 7, ..words.clone() }, n, count, 0);
+        for place in 0..4 * count {
+            let mut damaged = words.clone();
+            damaged.words[words.roads_at + place] = u32::MAX;
+            if place % 4 < 3 {
+                refused(&damaged, n, count, 0);
+            }
+        }
+        for v in 0..n {
+            let mut damaged = words.clone();
+            damaged.words[words.vertices_at + 8 * v + 2] += count as u32 + 1;
+            refused(&damaged, n, count, 0);
+        }
+    }
+}
+
 /// The least time for each source so far.
 struct Least(Vec<Duration>);
 
@@ -90,6 +131,7 @@ impl Least {
 }
 
 pub fn run() {
+    compare();
     println!("search: {VERTICES} vertices, {SOURCES} sources, least of {ROUNDS} rounds for each, microseconds for one source");
     let mut greatest: f64 = 0.0;
     for seed in SEEDS {
