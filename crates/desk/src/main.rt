@@ -1,0 +1,336 @@
+// The desk program: reads a map, an opening record and calls from standard input, and writes what each gets. What the bytes and the
+// lines are is proved in `desk_lines`, and what the calls do in `hailtrellis`; this program only reads, calls and writes.
+use answers::Reply;
+use counts::Counts;
+use desk_lines::Call;
+use desk_lines::Line;
+use desk_lines::Opening;
+use desk_lines::Taken;
+use desk_lines::Turn;
+use desk_lines::next_call;
+use desk_lines::opening_of;
+use desk_lines::take_map;
+use desk_lines::write_line;
+use fleet::Change;
+use libc::STDIN_FILENO;
+use libc::STDOUT_FILENO;
+use map_judge::Judgement;
+use map_judge::judge_map;
+ghost use Prim.Native.Nat.{_≤_, _<_};
+
+// Words that the buffer for the memory has.
+const MEMORY_WORDS: u32 = 16384;
+
+const MOST_CALLS: u32 = 1000000;
+
+// Bytes that the buffer for the lines has, and how many of them the lines of one call may take.
+const OUT_BYTES: usize = 8192;
+
+const CALL_BYTES: usize = 2048;
+
+// The window on the input holds the map's 64 KiB and 16 bytes more, as many as the longest call takes. `from` to `to` are not looked at
+// yet; `out` bytes of lines wait to be written; `over` says that the last line is written.
+struct State {
+    from: usize,
+    to: usize,
+    out: usize,
+    over: bool,
+}
+
+// Moves what is left of the window to its start, and reads on.
+fn refill(input: &mut [u8; 65552], from: usize, to: usize) -> usize
+    requires { ⌜ (from ≤ to) × (to ≤ 65552) ⌝ }
+    ensures { λ r. ⌜ r ≤ 65552 ⌝ }
+{
+    let mut at: usize = 0;
+    while at < to - from {
+        input[at] = input[from + at];
+        at += 1;
+    }
+    at + io::read_full(STDIN_FILENO, &mut input[at..])
+}
+
+// The line after the lines that wait.
+fn emit(out: &mut [u8; 8192], at: usize, line: Line) -> usize
+    requires { ⌜ at ≤ 8192 ⌝ }
+    ensures { λ r. ⌜ r ≤ 8192 ⌝ }
+{
+    let end = write_line(out, at, line);
+    if OUT_BYTES < end {
+        return OUT_BYTES;
+    }
+    end
+}
+
+fn flush(out: &[u8; 8192], at: usize)
+    requires { ⌜ at ≤ 8192 ⌝ }
+{
+    io::write_all(STDOUT_FILENO, &out[..at]);
+}
+
+// What a change gets.
+fn change_line(place: u32, reply: Reply) -> Line {
+    let number = reply.number();
+    if number == 0 {
+        return Line::Ok {
+            place,
+            stamp: reply.value(),
+        };
+    }
+    Line::No { place, number }
+}
+
+fn change(memory: &mut [u32; 16384], change: Change) -> Reply {
+    match change {
+        Change::Add {
+            van,
+            from,
+            to,
+            offset,
+        } => hailtrellis::add(memory, van, from, to, offset),
+        Change::Move {
+            van,
+            from,
+            to,
+            offset,
+        } => hailtrellis::move_van(memory, van, from, to, offset),
+        Change::Remove { van } => hailtrellis::remove(memory, van),
+        Change::Claim { van, stamp, desk } => hailtrellis::claim(memory, van, stamp, desk),
+        Change::Release { van, desk } => hailtrellis::release(memory, van, desk),
+    }
+}
+
+// The list's length, and a line for each van.
+fn list(answer: &[u32; 96], out: &mut [u8; 8192], at: usize, place: u32, length: u32) -> usize
+    requires { ⌜ at ≤ 8192 ⌝ }
+    ensures { λ r. ⌜ r ≤ 8192 ⌝ }
+{
+    let mut end = emit(out, at, Line::Length { place, length });
+    for i in 0..32 {
+        if i < length as usize {
+            end = emit(
+                out,
+                end,
+                Line::Van {
+                    place,
+                    number: answer[3 * i],
+                    distance: answer[3 * i + 1],
+                    stamp: answer[3 * i + 2],
+                },
+            );
+        }
+    }
+    end
+}
+
+fn question(memory: &[u32; 16384], answer: &mut [u32; 96], out: &mut [u8; 8192], at: usize, place: u32, vertex: u32, k: u32) -> usize
+    requires { ⌜ at ≤ 8192 ⌝ }
+    ensures { λ r. ⌜ r ≤ 8192 ⌝ }
+{
+    let reply = hailtrellis::question(memory, vertex, k, answer);
+    let number = reply.number();
+    if number == 0 {
+        return list(answer, out, at, place, reply.value());
+    }
+    emit(out, at, Line::No { place, number })
+}
+
+// One call.
+fn serve(memory: &mut [u32; 16384], answer: &mut [u32; 96], out: &mut [u8; 8192], at: usize, place: u32, call: Call) -> usize
+    requires { ⌜ at ≤ 8192 ⌝ }
+    ensures { λ r. ⌜ r ≤ 8192 ⌝ }
+{
+    match call {
+        Call::Changes(c) => {
+            let reply = change(memory, c);
+            emit(out, at, change_line(place, reply))
+        }
+        Call::Asks { vertex, k } => question(memory, answer, out, at, place, vertex, k),
+    }
+}
+
+// The last lines, where the record for `place` is bad or cut.
+fn bad(out: &mut [u8; 8192], at: usize, place: u32)
+    requires { ⌜ at ≤ 8192 ⌝ }
+{
+    let said = emit(out, at, Line::Bad { place });
+    let end = emit(out, said, Line::End { place });
+    flush(out, end);
+}
+
+// The last line, where no call follows the one at `place`.
+fn finish(out: &mut [u8; 8192], at: usize, place: u32)
+    requires { ⌜ at ≤ 8192 ⌝ }
+{
+    let end = emit(out, at, Line::End { place });
+    flush(out, end);
+}
+
+// A refused opening.
+fn refuse(number: u32) {
+    let mut out = [0u8; 8192];
+    let said = emit(&mut out, 0, Line::No { place: 0, number });
+    finish(&mut out, said, 0);
+}
+
+// The record for `place`: a call, or what ends the program. A call after the last that is allowed is bad.
+fn turn(input: &mut [u8; 65552], memory: &mut [u32; 16384], answer: &mut [u32; 96], out: &mut [u8; 8192], s: State, place: u32) -> State
+    requires { ⌜ (s .from ≤ s .to) × (s .to ≤ 65552) × (s .out ≤ 8192) × (1 ≤ place) ⌝ }
+    ensures { λ r. ⌜ (r .from ≤ r .to) × (r .to ≤ 65552) × (r .out ≤ 8192) ⌝ }
+{
+    let from = s.from;
+    let to = s.to;
+    let at = s.out;
+    match next_call(&input[from..to]) {
+        Turn::Over => {
+            finish(out, at, place - 1);
+            State {
+                from,
+                to,
+                out: 0,
+                over: true,
+            }
+        }
+        Turn::Bad => {
+            bad(out, at, place);
+            State {
+                from,
+                to,
+                out: 0,
+                over: true,
+            }
+        }
+        Turn::Next(call, size) => {
+            if MOST_CALLS < place {
+                bad(out, at, place);
+                return State {
+                    from,
+                    to,
+                    out: 0,
+                    over: true,
+                };
+            }
+            let end = serve(memory, answer, out, at, place, call);
+            State {
+                from: from + size,
+                to,
+                out: end,
+                over: false,
+            }
+        }
+    }
+}
+
+// Before a record is looked at: bytes enough in the window for the longest call, unless the input ends, and room for its lines.
+fn ready(input: &mut [u8; 65552], out: &[u8; 8192], s: State) -> State
+    requires { ⌜ (s .from ≤ s .to) × (s .to ≤ 65552) × (s .out ≤ 8192) ⌝ }
+    ensures { λ r. ⌜ (r .from ≤ r .to) × (r .to ≤ 65552) × (r .out ≤ 8192) ⌝ }
+{
+    let mut from = s.from;
+    let mut to = s.to;
+    let mut at = s.out;
+    if to - from < 16 {
+        to = refill(input, from, to);
+        from = 0;
+    }
+    if OUT_BYTES - at < CALL_BYTES {
+        flush(out, at);
+        at = 0;
+    }
+    State {
+        from,
+        to,
+        out: at,
+        over: false,
+    }
+}
+
+fn run(input: &mut [u8; 65552], memory: &mut [u32; 16384], answer: &mut [u32; 96], out: &mut [u8; 8192], start: State)
+    requires { ⌜ (start .from ≤ start .to) × (start .to ≤ 65552) × (start .out ≤ 8192) ⌝ }
+{
+    let mut s = start;
+    for place in 1..=1000001 {
+        s = ready(input, out, s);
+        s = turn(input, memory, answer, out, s, place);
+        if s.over {
+            return;
+        }
+    }
+}
+
+// The calls, after an accepted opening.
+fn calls(input: &mut [u8; 65552], memory: &mut [u32; 16384], counts: Counts, from: usize, to: usize)
+    requires { ⌜ (from ≤ to) × (to ≤ 65552) ⌝ }
+{
+    let mut answer = [0u32; 96];
+    let mut out = [0u8; 8192];
+    let said = emit(
+        &mut out,
+        0,
+        Line::Opened {
+            vertices: counts.vertices,
+            roads: counts.roads,
+            parts: counts.parts,
+        },
+    );
+    run(
+        input,
+        memory,
+        &mut answer,
+        &mut out,
+        State {
+            from,
+            to,
+            out: said,
+            over: false,
+        },
+    );
+}
+
+// A sound map that ends at `end`: the opening record, and then the calls.
+fn open(input: &mut [u8; 65552], counts: Counts, end: usize, to: usize)
+    requires { ⌜ (end ≤ to) × (to ≤ 65552) ⌝ }
+{
+    let mut memory = [0u32; 16384];
+    match opening_of(&input[end..to]) {
+        Opening::Bad => {
+            let mut out = [0u8; 8192];
+            bad(&mut out, 0, 0);
+        }
+        Opening::Start(start) => {
+            let reply = hailtrellis::open(&input[..end], &mut memory, start);
+            let number = reply.number();
+            if number != 0 {
+                refuse(number);
+                return;
+            }
+            calls(input, &mut memory, counts, end + 10, to);
+        }
+    }
+}
+
+fn main() {
+    let mut input = [0u8; 65552];
+    let to = io::read_full(STDIN_FILENO, &mut input);
+    let end = match take_map(&input[..to]) {
+        Taken::TooLong => {
+            refuse(5);
+            return;
+        }
+        Taken::UpTo(end) => end,
+    };
+    let mut map_end = end;
+    if to < map_end {
+        map_end = to;
+    }
+    match judge_map(&input[..map_end]) {
+        Judgement::Refused(number) => refuse(number),
+        Judgement::Sound(counts, need) => {
+            if MEMORY_WORDS < need {
+                refuse(5);
+                return;
+            }
+            open(&mut input, counts, map_end, to);
+        }
+    }
+}
