@@ -16,16 +16,17 @@ use libc::STDIN_FILENO;
 use libc::STDOUT_FILENO;
 use map_judge::Judgement;
 use map_judge::judge_map;
-ghost use Prim.Native.Nat.{_≤_, _<_};
+ghost use mathlib.Core.Path.{_≡_};
+ghost use Prim.Native.Nat.{_≤_};
+ghost use lib.ListN.{length};
+ghost use Rattle.desk.specs.Stands.{Stands};
 
 // Words that the buffer for the memory has.
 const MEMORY_WORDS: u32 = 16384;
 
 const MOST_CALLS: u32 = 1000000;
 
-// Bytes that the buffer for the lines has, and how many of them the lines of one call may take.
-const OUT_BYTES: usize = 8192;
-
+// More bytes than the lines of one call take.
 const CALL_BYTES: usize = 2048;
 
 // The window on the input holds the map's 64 KiB and 16 bytes more, as many as the longest call takes. `from` to `to` are not looked at
@@ -38,12 +39,13 @@ struct State {
 }
 
 // Moves what is left of the window to its start, and reads on.
-fn refill(input: &mut [u8; 65552], from: usize, to: usize) -> usize
-    requires { ⌜ (from ≤ to) × (to ≤ 65552) ⌝ }
-    ensures { λ r. ⌜ r ≤ 65552 ⌝ }
+fn refill(input: &mut [u8], from: usize, to: usize) -> usize
+    requires { ⌜ (from ≤ to) × (to ≤ length (now input)) ⌝ }
+    ensures { λ r. ⌜ r ≤ length (now (input .entry)) ⌝ }
 {
+    let left = to - from;
     let mut at: usize = 0;
-    while at < to - from {
+    while at < left {
         input[at] = input[from + at];
         at += 1;
     }
@@ -51,19 +53,19 @@ fn refill(input: &mut [u8; 65552], from: usize, to: usize) -> usize
 }
 
 // The line after the lines that wait.
-fn emit(out: &mut [u8; 8192], at: usize, line: Line) -> usize
-    requires { ⌜ at ≤ 8192 ⌝ }
-    ensures { λ r. ⌜ r ≤ 8192 ⌝ }
+fn emit(out: &mut [u8], at: usize, line: Line) -> usize
+    requires { ⌜ (at ≤ length (now out)) × (length (now out) ≤ 65536) ⌝ }
+    ensures { λ r. ⌜ r ≤ length (now (out .entry)) ⌝ }
 {
     let end = write_line(out, at, line);
-    if OUT_BYTES < end {
-        return OUT_BYTES;
+    if out.len() < end {
+        return out.len();
     }
     end
 }
 
-fn flush(out: &[u8; 8192], at: usize)
-    requires { ⌜ at ≤ 8192 ⌝ }
+fn flush(out: &[u8], at: usize)
+    requires { ⌜ at ≤ length (now out) ⌝ }
 {
     io::write_all(STDOUT_FILENO, &out[..at]);
 }
@@ -101,13 +103,20 @@ fn change(memory: &mut [u32; 16384], change: Change) -> Reply {
 }
 
 // The list's length, and a line for each van.
-fn list(answer: &[u32; 96], out: &mut [u8; 8192], at: usize, place: u32, length: u32) -> usize
-    requires { ⌜ at ≤ 8192 ⌝ }
-    ensures { λ r. ⌜ r ≤ 8192 ⌝ }
+fn list(answer: &[u32; 96], out: &mut [u8], at: usize, place: u32, count: u32) -> usize
+    requires { ⌜ (at ≤ length (now out)) × (length (now out) ≤ 65536) ⌝ }
+    ensures { λ r. ⌜ r ≤ length (now (out .entry)) ⌝ }
 {
-    let mut end = emit(out, at, Line::Length { place, length });
+    let mut end = emit(
+        out,
+        at,
+        Line::Length {
+            place,
+            length: count,
+        },
+    );
     for i in 0..32 {
-        if i < length as usize {
+        if i < count as usize {
             end = emit(
                 out,
                 end,
@@ -123,9 +132,9 @@ fn list(answer: &[u32; 96], out: &mut [u8; 8192], at: usize, place: u32, length:
     end
 }
 
-fn question(memory: &[u32; 16384], answer: &mut [u32; 96], out: &mut [u8; 8192], at: usize, place: u32, vertex: u32, k: u32) -> usize
-    requires { ⌜ at ≤ 8192 ⌝ }
-    ensures { λ r. ⌜ r ≤ 8192 ⌝ }
+fn question(memory: &[u32; 16384], answer: &mut [u32; 96], out: &mut [u8], at: usize, place: u32, vertex: u32, k: u32) -> usize
+    requires { ⌜ (at ≤ length (now out)) × (length (now out) ≤ 65536) ⌝ }
+    ensures { λ r. ⌜ r ≤ length (now (out .entry)) ⌝ }
 {
     let reply = hailtrellis::question(memory, vertex, k, answer);
     let number = reply.number();
@@ -136,9 +145,9 @@ fn question(memory: &[u32; 16384], answer: &mut [u32; 96], out: &mut [u8; 8192],
 }
 
 // One call.
-fn serve(memory: &mut [u32; 16384], answer: &mut [u32; 96], out: &mut [u8; 8192], at: usize, place: u32, call: Call) -> usize
-    requires { ⌜ at ≤ 8192 ⌝ }
-    ensures { λ r. ⌜ r ≤ 8192 ⌝ }
+fn serve(memory: &mut [u32; 16384], answer: &mut [u32; 96], out: &mut [u8], at: usize, place: u32, call: Call) -> usize
+    requires { ⌜ (at ≤ length (now out)) × (length (now out) ≤ 65536) ⌝ }
+    ensures { λ r. ⌜ r ≤ length (now (out .entry)) ⌝ }
 {
     match call {
         Call::Changes(c) => {
@@ -150,8 +159,8 @@ fn serve(memory: &mut [u32; 16384], answer: &mut [u32; 96], out: &mut [u8; 8192]
 }
 
 // The last lines, where the record for `place` is bad or cut.
-fn bad(out: &mut [u8; 8192], at: usize, place: u32)
-    requires { ⌜ at ≤ 8192 ⌝ }
+fn bad(out: &mut [u8], at: usize, place: u32)
+    requires { ⌜ (at ≤ length (now out)) × (length (now out) ≤ 65536) ⌝ }
 {
     let said = emit(out, at, Line::Bad { place });
     let end = emit(out, said, Line::End { place });
@@ -159,8 +168,8 @@ fn bad(out: &mut [u8; 8192], at: usize, place: u32)
 }
 
 // The last line, where no call follows the one at `place`.
-fn finish(out: &mut [u8; 8192], at: usize, place: u32)
-    requires { ⌜ at ≤ 8192 ⌝ }
+fn finish(out: &mut [u8], at: usize, place: u32)
+    requires { ⌜ (at ≤ length (now out)) × (length (now out) ≤ 65536) ⌝ }
 {
     let end = emit(out, at, Line::End { place });
     flush(out, end);
@@ -174,9 +183,9 @@ fn refuse(number: u32) {
 }
 
 // The record for `place`: a call, or what ends the program. A call after the last that is allowed is bad.
-fn turn(input: &mut [u8; 65552], memory: &mut [u32; 16384], answer: &mut [u32; 96], out: &mut [u8; 8192], s: State, place: u32) -> State
-    requires { ⌜ (s .from ≤ s .to) × (s .to ≤ 65552) × (s .out ≤ 8192) × (1 ≤ place) ⌝ }
-    ensures { λ r. ⌜ (r .from ≤ r .to) × (r .to ≤ 65552) × (r .out ≤ 8192) ⌝ }
+fn turn(input: &mut [u8], memory: &mut [u32; 16384], answer: &mut [u32; 96], out: &mut [u8], s: State, place: u32) -> State
+    requires { ⌜ Stands s (length (now input)) (length (now out)) × (1 ≤ place) ⌝ }
+    ensures { λ r. ⌜ Stands r (length (now (input .entry))) (length (now (out .entry))) ⌝ }
 {
     let from = s.from;
     let to = s.to;
@@ -221,36 +230,51 @@ fn turn(input: &mut [u8; 65552], memory: &mut [u32; 16384], answer: &mut [u32; 9
     }
 }
 
-// Before a record is looked at: bytes enough in the window for the longest call, unless the input ends, and room for its lines.
-fn ready(input: &mut [u8; 65552], out: &[u8; 8192], s: State) -> State
-    requires { ⌜ (s .from ≤ s .to) × (s .to ≤ 65552) × (s .out ≤ 8192) ⌝ }
-    ensures { λ r. ⌜ (r .from ≤ r .to) × (r .to ≤ 65552) × (r .out ≤ 8192) ⌝ }
+// Before a record is looked at: bytes enough in the window for the longest call, unless the input ends.
+fn topped(input: &mut [u8], s: State) -> State
+    requires { ⌜ (s .from ≤ s .to) × (s .to ≤ length (now input)) ⌝ }
+    ensures { λ r. ⌜ (r .from ≤ r .to) × (r .to ≤ length (now (input .entry))) × (r .out ≡ s .out) ⌝ }
 {
-    let mut from = s.from;
-    let mut to = s.to;
-    let mut at = s.out;
+    let from = s.from;
+    let to = s.to;
+    let out = s.out;
     if to - from < 16 {
-        to = refill(input, from, to);
-        from = 0;
+        let end = refill(input, from, to);
+        return State {
+            from: 0,
+            to: end,
+            out,
+            over: false,
+        };
     }
-    if OUT_BYTES - at < CALL_BYTES {
-        flush(out, at);
-        at = 0;
-    }
-    State {
-        from,
-        to,
-        out: at,
-        over: false,
-    }
+    s
 }
 
-fn run(input: &mut [u8; 65552], memory: &mut [u32; 16384], answer: &mut [u32; 96], out: &mut [u8; 8192], start: State)
-    requires { ⌜ (start .from ≤ start .to) × (start .to ≤ 65552) × (start .out ≤ 8192) ⌝ }
+// And room for its lines.
+fn drained(out: &[u8], s: State) -> State
+    requires { ⌜ s .out ≤ length (now out) ⌝ }
+    ensures { λ r. ⌜ (r .from ≡ s .from) × (r .to ≡ s .to) × (r .out ≤ length (now (out .entry))) ⌝ }
+{
+    let at = s.out;
+    if out.len() - at < CALL_BYTES {
+        flush(out, at);
+        return State {
+            from: s.from,
+            to: s.to,
+            out: 0,
+            over: false,
+        };
+    }
+    s
+}
+
+fn run(input: &mut [u8], memory: &mut [u32; 16384], answer: &mut [u32; 96], out: &mut [u8], start: State)
+    requires { ⌜ Stands start (length (now input)) (length (now out)) ⌝ }
 {
     let mut s = start;
     for place in 1..=1000001 {
-        s = ready(input, out, s);
+        s = topped(input, s);
+        s = drained(out, s);
         s = turn(input, memory, answer, out, s, place);
         if s.over {
             return;
@@ -259,8 +283,8 @@ fn run(input: &mut [u8; 65552], memory: &mut [u32; 16384], answer: &mut [u32; 96
 }
 
 // The calls, after an accepted opening.
-fn calls(input: &mut [u8; 65552], memory: &mut [u32; 16384], counts: Counts, from: usize, to: usize)
-    requires { ⌜ (from ≤ to) × (to ≤ 65552) ⌝ }
+fn calls(input: &mut [u8], memory: &mut [u32; 16384], counts: Counts, from: usize, to: usize)
+    requires { ⌜ (from ≤ to) × (to ≤ length (now input)) ⌝ }
 {
     let mut answer = [0u32; 96];
     let mut out = [0u8; 8192];
@@ -288,8 +312,8 @@ fn calls(input: &mut [u8; 65552], memory: &mut [u32; 16384], counts: Counts, fro
 }
 
 // A sound map that ends at `end`: the opening record, and then the calls.
-fn open(input: &mut [u8; 65552], counts: Counts, end: usize, to: usize)
-    requires { ⌜ (end ≤ to) × (to ≤ 65552) ⌝ }
+fn open(input: &mut [u8], counts: Counts, end: usize, to: usize)
+    requires { ⌜ (end ≤ to) × (to ≤ length (now input)) ⌝ }
 {
     let mut memory = [0u32; 16384];
     match opening_of(&input[end..to]) {

@@ -10,13 +10,16 @@ use native.Mathlib.Omega.{arith}
 use lib.ListN.{length, take, drop, length-append, length-take, length-drop}
 use lib.Seq.{take-append-le, drop-append-le}
 use lib.Dec.{leb, eqb}
+use borrow.Author.Tests.{eq-eqb, ne-eqb}
 use Rattle.maps.specs.Bytes.{number, field}
 use Rattle.desk_lines.specs.declared.record.Call.{Call}
 use Rattle.desk_lines.specs.declared.record.Request.{Request}
+use Rattle.desk_lines.specs.declared.record.Request.the-variants.{Is}
 use Rattle.desk_lines.specs.declared.record.Turn.{Turn}
+use Rattle.desk_lines.specs.declared.record.Turn.the-variants.{Over, Next}
 use Rattle.desk_lines.specs.declared.record.Opening.{Opening}
 use Rattle.desk_lines.specs.declared.record.Opening.the-variants.{Start}
-use Rattle.desk_lines.specs.Read.{takeRecords, sized, addOf, moveOf, removeOf, claimOf, releaseOf, questionOf, callOf, recordSize, turnOf, openingOf}
+use Rattle.desk_lines.specs.Read.{takeRecords, sized, addOf, moveOf, removeOf, claimOf, releaseOf, questionOf, callOf, recordSize, turnFor, turnOf, openingOf}
 use Rattle.desk_lines.proofs.Sized.{sized-no, size-short, size-cut, size-whole, size-fits, turn-bad, turn-call, opening-size}
 use Rattle.desk_lines.proofs.Taking.{none-left, take-long, take-next}
 
@@ -149,3 +152,29 @@ module _ (w more : List ℕ) where
           ∙ (λ i. takeRecords (less i) (at + 4 + field w at 4) (w ++ more))
           ∙ later within
           ∙ sym (take-next w at (field w at 4) refl (suc n) (omega arith) (omega arith) within ∙ (λ i. takeRecords (less i) (at + 4 + field w at 4) w))
+
+-- A call's record lies within the bytes that show it.
+pub turn-within : (bytes : List ℕ) {call : Call} {size : ℕ} → turnOf bytes ≡ Next call size → size ≤ length bytes
+unfolding turnOf
+turn-within bytes {call} {size} e = by (eqb (length bytes) 0) (ℕ-discrete (recordSize bytes) 0) e
+  where
+    shown : (request : Request) → turnFor request (recordSize bytes) ≡ Next call size → size ≡ recordSize bytes
+    shown Request.Bad f = let z : _≡_ {A = ℕ} 0 1 = cc in absurd (omega arith)
+    shown (Is other) f = cc
+
+    by : (empty : Bool) → Dec (recordSize bytes ≡ 0)
+        → cond empty Over (cond (eqb (recordSize bytes) 0) Turn.Bad (turnFor (callOf (field bytes 4 2) (take (recordSize bytes - 6) (drop 6 bytes))) (recordSize bytes))) ≡ Next call size
+        → size ≤ length bytes
+    by true d f = let z : _≡_ {A = ℕ} 0 1 = cc in absurd (omega arith)
+    by false (yes none) f = let g : Turn.Bad ≡ Next call size = rw (eq-eqb (recordSize bytes) 0 none) at f in let z : _≡_ {A = ℕ} 0 1 = cc in absurd (omega arith)
+    by false (no some) f =
+        omega (arith, shown (callOf (field bytes 4 2) (take (recordSize bytes - 6) (drop 6 bytes))) (rw (ne-eqb (recordSize bytes) 0 some) at f), size-fits bytes some)
+
+-- And so does an opening record.
+pub opening-within : (bytes : List ℕ) {start : ℕ} → openingOf bytes ≡ Start start → 10 ≤ length bytes
+unfolding openingOf
+opening-within bytes {start} e = by (ℕ-discrete (recordSize bytes) 10) e
+  where
+    by : Dec (recordSize bytes ≡ 10) → cond (eqb (recordSize bytes) 10 && eqb (field bytes 4 2) 5) (Start (field bytes 6 4)) Opening.Bad ≡ Start start → 10 ≤ length bytes
+    by (yes ten) f = omega (arith, ten, size-fits bytes (λ none. omega (arith, ten, none)))
+    by (no other) f = let g : Opening.Bad ≡ Start start = rw (ne-eqb (recordSize bytes) 10 other) at f in let z : _≡_ {A = ℕ} 0 1 = cc in absurd (omega arith)

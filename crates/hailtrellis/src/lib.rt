@@ -56,3 +56,11 @@ pub fn release(memory: &mut [u32], van: u32, desk: u32) -> Reply
     changes::change(memory, Change::Release { van, desk })
 }
 
+
+pub fn open(map: &[u8], memory: &mut [u32], start: u32) -> Reply {
+    Reply::TooSmall
+}
+
+pub fn question(memory: &[u32], vertex: u32, k: u32, answer: &mut [u32]) -> Reply {
+    Reply::TooSmall
+}
