@@ -65,10 +65,10 @@ fn make(mem: &mut [u32], counts: Counts, van: u32, old: VanWords, new: VanWords)
     requires { ⌜ van < 1024 ⌝ }
     ensures { λ _. ⌜ now (mem .exit) ≡ made (now (mem .entry)) counts van old new ⌝ }
 {
-    let from = road_end(mem, counts, old.road);
-    let to = road_end(mem, counts, new.road);
     if old.state == VanWords::FREE {
+        let from = road_end(mem, counts, old.road);
         if new.state == VanWords::FREE {
+            let to = road_end(mem, counts, new.road);
             if from == to {
                 write_van(mem, counts, van, new);
                 return;
@@ -81,6 +81,7 @@ fn make(mem: &mut [u32], counts: Counts, van: u32, old: VanWords, new: VanWords)
         return;
     }
     if new.state == VanWords::FREE {
+        let to = road_end(mem, counts, new.road);
         arrive(mem, counts, van, to, new);
         return;
     }
