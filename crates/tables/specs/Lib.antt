@@ -1,0 +1,2 @@
+-- What stands in the memory before and after its distance tables are filled.
+pub mod Laid

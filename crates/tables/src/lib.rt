@@ -1,0 +1,1 @@
+// The distance tables of all parts, in place.
