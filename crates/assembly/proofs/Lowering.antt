@@ -59,13 +59,16 @@ pub entry-fits : (m : Map) (mem : List ℕ) → Laid m mem → (q i j : ℕ) →
     tableOf m q + (sizeOf m q * i + j) < length mem
 entry-fits m mem L q i j hq hi hj = omega (arith, L .fits, rows-end m, table-to m q hq, entry-to m q i j hi hj)
 
-module _ (m : Map) (mem : List ℕ) (fits : need m ≤ length mem) (low q i j x : ℕ) (hl : low ≤ q) (hq : q < partCount m) (hi : i < sizeOf m q) (hj : j < sizeOf m q)
-    (near : Honest m low mem → dist m (rowVertex m q i) (rowVertex m q j) ≤ x) where
+module _ (m : Map) (mem : List ℕ) (fits : need m ≤ length mem) (q i j : ℕ) (hq : q < partCount m) (hi : i < sizeOf m q) (hj : j < sizeOf m q) (x : ℕ) where
   within : tableOf m q + (sizeOf m q * i + j) < length mem
   within = omega (arith, fits, rows-end m, table-to m q hq, entry-to m q i j hi hj)
 
-  pub lower-one : Lower m low mem (lowered mem (tableOf m q + (sizeOf m q * i + j)) x)
-  lower-one = record {
+  pub lower-one-at : entry m (lowered mem (tableOf m q + (sizeOf m q * i + j)) x) q i j ≤ x
+  lower-one-at = omega (arith, lowered-at mem (tableOf m q + (sizeOf m q * i + j)) x within)
+
+  -- where x is no less than the distance
+  pub lower-one : (low : ℕ) → low ≤ q → (Honest m low mem → dist m (rowVertex m q i) (rowVertex m q j) ≤ x) → Lower m low mem (lowered mem (tableOf m q + (sizeOf m q * i + j)) x)
+  lower-one low hl near = record {
     sized = length-set mem (tableOf m q + (sizeOf m q * i + j)) _;
     outside = λ y out. lowered-other mem _ x y (λ same. ⊎-elim
         (λ below. omega (arith, table-from m q))
@@ -80,6 +83,3 @@ module _ (m : Map) (mem : List ℕ) (fits : need m ≤ length mem) (low q i j x 
       | no other ↦ omega (arith, lowered-other mem (tableOf m q + (sizeOf m q * i + j)) x (tableOf m r + (sizeOf m r * k + l)) other, h r k l lr hr hk hl′)
     ];
   }
-
-  pub lower-one-at : entry m (lowered mem (tableOf m q + (sizeOf m q * i + j)) x) q i j ≤ x
-  lower-one-at = omega (arith, lowered-at mem (tableOf m q + (sizeOf m q * i + j)) x within)
