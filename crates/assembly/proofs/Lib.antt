@@ -4,3 +4,6 @@ pub mod Lowering
 pub mod Trying
 pub mod Below
 pub mod Pairs
+pub mod Range
+pub mod Roads
+pub mod Rising
