@@ -7,3 +7,4 @@ pub mod Pairs
 pub mod Range
 pub mod Roads
 pub mod Rising
+pub mod Descent
