@@ -48,10 +48,10 @@ pub row-nowhere : (mem : List ℕ) {p i c first mark : ℕ} → first ≡ getD m
 row-nowhere mem {p} {i} first-is shown reads none m L hp hi I = record {
   lower = lower-none m 0 mem;
   tight = λ d di. absurd (
-    children-says m p d (di .is-child) .2 (sym (part-below m (L .sound) p i d hi di)
-        ∙ sym (reads (rowVertex m p i) (partBelow m p (rowVertex m p i)) (vertex-small m mem L p i hi)
-        (shown ∙ ap (λ (f : ℕ). getD mem (f + 4 * i + 2) 0) (first-is ∙ L .part p hp .first-row) ∙ L .row p i hp hi .mark)) ∙ none)
-  );
+      children-says m p d (di .is-child) .2 (sym (part-below m (L .sound) p i d hi di)
+      ∙ sym (reads (rowVertex m p i) (partBelow m p (rowVertex m p i)) (vertex-small m mem L p i hi)
+      (shown ∙ ap (λ (f : ℕ). getD mem (f + 4 * i + 2) 0) (first-is ∙ L .part p hp .first-row) ∙ L .row p i hp hi .mark)) ∙ none)
+      );
   keeps = λ q k _ _ tight. tight;
 }
 
@@ -110,9 +110,9 @@ module _ (start : List ℕ) (p : ℕ) where
 -- the table of a part is right over the whole map when its own turn comes
 own-short : {m : Map} {start mem : List ℕ} → Laid m start → (p : ℕ) → p < partCount m → Descended m p start mem → Short m p mem
 own-short L p hp D = D .short p hp (elim (ℕ-discrete p 0) [
-    | yes root ↦ inl root
-    | no real ↦ inr (L .sound .part p hp .parent (omega (arith, real)))
-  ])
+  | yes root ↦ inl root
+  | no real ↦ inr (L .sound .part p hp .parent (omega (arith, real)))
+])
 
 short-lower : {m : Map} {before after : List ℕ} → Lower m 0 before after → (q : ℕ) → q < partCount m → Short m q before → Short m q after
 short-lower f q hq h i j w hi hj walk = omega (arith, f .less q i j (omega arith) hq hi hj, h i j w hi hj walk)
@@ -239,11 +239,11 @@ all-filled start mem small m L D = record {
   where
     above : (p i j : ℕ) → p < partCount m → i < sizeOf m p → j < sizeOf m p → entry m mem p i j ≤ dist m (rowVertex m p i) (rowVertex m p j)
     above p i j hp hi hj = elim (ℕ-discrete (dist m (rowVertex m p i) (rowVertex m p j)) FAR) [
-        | yes far ↦ omega (arith, far, small (tableOf m p + (sizeOf m p * i + j)))
-        | no near ↦
-            D .short p hp
-            (elim (ℕ-discrete p 0) [
-              | yes root ↦ inl root
-              | no real ↦ inr (omega (arith, L .sound .part p hp .parent (omega (arith, real))))
-            ]) i j (dist m (rowVertex m p i) (rowVertex m p j)) hi hj (dist-exact m (sound-net m (L .sound)) (rowVertex m p i) (rowVertex m p j) (row-real m p i hi) .reached near)
-      ]
+      | yes far ↦ omega (arith, far, small (tableOf m p + (sizeOf m p * i + j)))
+      | no near ↦
+          D .short p hp
+          (elim (ℕ-discrete p 0) [
+            | yes root ↦ inl root
+            | no real ↦ inr (omega (arith, L .sound .part p hp .parent (omega (arith, real))))
+          ]) i j (dist m (rowVertex m p i) (rowVertex m p j)) hi hj (dist-exact m (sound-net m (L .sound)) (rowVertex m p i) (rowVertex m p j) (row-real m p i hi) .reached near)
+    ]

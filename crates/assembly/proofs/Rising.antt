@@ -102,17 +102,17 @@ module _ (m : Map) (before after : List ℕ) (L : Laid m before) (p : ℕ) (hp :
   blank-own : (i j : ℕ) → i < sizeOf m p → j < sizeOf m p → dist m (rowVertex m p i) (rowVertex m p j) ≤ entry m after p i j
   unfolding blank
   blank-own i j hi hj = elim (ℕ-discrete i j) [
-      | yes same ↦
-          rw (← same) (omega (arith, dist-self m (sound-net m (L .sound)) (rowVertex m p i) (row-real m p i hi)))
-      | no other ↦
-          omega (arith, rw (ne-eqb i j other) at (made .each i j hi hj), dist-most m (sound-net m (L .sound)) (rowVertex m p i) (row-real m p i hi) (rowVertex m p j))
-    ]
+    | yes same ↦
+        rw (← same) (omega (arith, dist-self m (sound-net m (L .sound)) (rowVertex m p i) (row-real m p i hi)))
+    | no other ↦
+        omega (arith, rw (ne-eqb i j other) at (made .each i j hi hj), dist-most m (sound-net m (L .sound)) (rowVertex m p i) (row-real m p i hi) (rowVertex m p j))
+  ]
 
   pub blank-honest : Inside m (suc p) before → Honest m p after
   blank-honest I q i j low hq hi hj = elim (ℕ-discrete q p) [
-      | yes same ↦ subst⁻¹ (λ (x : ℕ). i < sizeOf m x → j < sizeOf m x → dist m (rowVertex m x i) (rowVertex m x j) ≤ entry m after x i j) same (blank-own i j) hi hj
-      | no other ↦ omega (arith, blank-later q i j (omega (arith, other)) hi hj, I .honest q i j (omega (arith, other)) hq hi hj)
-    ]
+    | yes same ↦ subst⁻¹ (λ (x : ℕ). i < sizeOf m x → j < sizeOf m x → dist m (rowVertex m x i) (rowVertex m x j) ≤ entry m after x i j) same (blank-own i j) hi hj
+    | no other ↦ omega (arith, blank-later q i j (omega (arith, other)) hi hj, I .honest q i j (omega (arith, other)) hq hi hj)
+  ]
 
   pub blank-inner : Inside m (suc p) before → (q i j w : ℕ) → p < q → q < partCount m → i < sizeOf m q → j < sizeOf m q → Inner m q (rowVertex m q i) (rowVertex m q j) w → entry m after q i j ≤ w
   blank-inner I q i j w less hq hi hj walk = omega (arith, blank-later q i j less hi hj, I .inner q i j w less hq hi hj walk)
@@ -156,7 +156,7 @@ module _ (m : Map) (mem one two three four : List ℕ) (L : Laid m mem) (p : ℕ
       let l = place-below m (L .sound) p j c (rb .0) jb in
       let low = child-later m (L .sound) p c hc in
       let known : Inner m c (rowVertex m c (placeBelow m p i c)) (rowVertex m c (placeBelow m p j c)) w =
-          subst⁻¹ (λ (v : ℕ). Inner m c v (rowVertex m c (placeBelow m p j c)) w) (k .1 ∙ ra .1) (subst⁻¹ (λ (v : ℕ). Inner m c a v w) (l .1 ∙ rb .1) walk) in
+      subst⁻¹ (λ (v : ℕ). Inner m c v (rowVertex m c (placeBelow m p j c)) w) (k .1 ∙ ra .1) (subst⁻¹ (λ (v : ℕ). Inner m c a v w) (l .1 ∙ rb .1) walk) in
       omega (
         arith,
         blank-inner m mem one L p hp B I c (placeBelow m p i c) (placeBelow m p j c) w (low .1) (low .0) (k .0) (l .0) known,

@@ -55,14 +55,16 @@ module _ (mem : List ℕ) (p wide : ℕ) where
       first ≡ getD mem (64 + 8 * p + 2) 0 → mark ≡ getD mem (first + 4 * i + 2) 0 → ((u d : ℕ) → u < 65536 → mark ≡ u + 65536 * d → v ≡ u) →
       at ≡ v → after ≡ set place at i → NotedTo (i + 1) after
   noted-turn {v = v} {at = at} place {after} i hi size-is long done first-is shown reads at-is put m L hp few =
-      record { each = λ k hk. ap (λ (l : List ℕ). getD l (rowVertex m p k) 0) put ∙ elim (eq-or-lt-of-le hk) [
-        | inl q ↦
-            let same : k ≡ i = omega arith in
-            rw same (rw (← own) (getD-set-same place at i 0 (omega (arith, own, row-real m p i fits, L .sound .vertices .1))))
-        | inr less ↦
-            getD-set-other place at (rowVertex m p k) i 0 (λ same. omega (arith, row-differ m p k i (omega (arith, fits)) fits (same ∙ own)))
-            ∙ done m L hp few .each k (omega arith)
-      ] }
+      record {
+        each = λ k hk. ap (λ (l : List ℕ). getD l (rowVertex m p k) 0) put ∙ elim (eq-or-lt-of-le hk) [
+          | inl q ↦
+              let same : k ≡ i = omega arith in
+              rw same (rw (← own) (getD-set-same place at i 0 (omega (arith, own, row-real m p i fits, L .sound .vertices .1))))
+          | inr less ↦
+              getD-set-other place at (rowVertex m p k) i 0 (λ same. omega (arith, row-differ m p k i (omega (arith, fits)) fits (same ∙ own)))
+              ∙ done m L hp few .each k (omega arith)
+        ];
+      }
     where
       fits : i < sizeOf m p
       fits = omega (arith, L .part p hp .size)
@@ -94,10 +96,6 @@ first-road-end mem {v} all-is past shown m L hv =
 -- ---- one road
 
 module _ (mem place : List ℕ) (m : Map) (L : Laid m mem) (p i r : ℕ) (hp : p < partCount m) (hi : i < sizeOf m p) (hr : r < roadCount m) (N : Noted m p (sizeOf m p) place) where
-  -- its words
-  pub road-at : {parts all a b c road : ℕ} → parts ≡ getD mem 4 0 → a ≡ parts → all ≡ getD mem 2 0 → b ≡ all → c ≡ r → road ≡ 64 + 8 * a + 8 * b + 4 * c → road ≡ roadsAt m + 4 * r
-  road-at parts-is a-is all-is b-is c-is road-is = omega (arith, roads-start m, L .parts, L .vertices)
-
   -- it leads elsewhere: nothing is to be done
   road-none : ((j : ℕ) → j < sizeOf m p → roadAt m r .from ≡ rowVertex m p i → roadAt m r .to ≡ rowVertex m p j → ⊥) → RoadsOf m p i r (suc r) mem mem
   road-none never = record {
@@ -157,6 +155,44 @@ module _ (mem place : List ℕ) (m : Map) (L : Laid m mem) (p i r : ℕ) (hp : p
             dist-road m (sound-net m (L .sound)) (rowVertex m p i) (row-real m p i hi) (roadAt m r) (entry-in (m .roads) r noRoad hr),
             subst⁻¹ (λ (v : ℕ). dist m (rowVertex m p i) v ≡ 0) leads-from (dist-self m (sound-net m (L .sound)) (rowVertex m p i) (row-real m p i hi)),
           ))
+
+-- ---- one road, as the words of the memory show it
+
+abbrev pub ByRoad : List ℕ → List ℕ → ℕ → ℕ → ℕ → List ℕ → Type 0
+ByRoad mem place p i r after = (m : Map) → Laid m mem → p < partCount m → i < sizeOf m p → r < roadCount m → Noted m p (sizeOf m p) place → RoadsOf m p i r (suc r) mem after
+
+module _ (mem place : List ℕ) (p i r : ℕ) {parts a all b c size first table from to weight at j mark u : ℕ}
+    (parts-is : parts ≡ getD mem 4 0) (a-is : a ≡ parts) (all-is : all ≡ getD mem 2 0) (b-is : b ≡ all) (c-is : c ≡ r)
+    (size-is : size ≡ getD mem (64 + 8 * p + 1) 0) (first-is : first ≡ getD mem (64 + 8 * p + 2) 0) (table-is : table ≡ getD mem (64 + 8 * p + 3) 0)
+    (from-is : from ≡ getD mem (64 + 8 * a + 8 * b + 4 * c) 0) (to-is : to ≡ getD mem (64 + 8 * a + 8 * b + 4 * c + 1) 0) (weight-is : weight ≡ getD mem (64 + 8 * a + 8 * b + 4 * c + 2) 0)
+    (at-is : at ≡ to) (j-is : j ≡ getD place at 0) (mark-is : mark ≡ getD mem (first + 4 * i + 2) 0) (reads : (v d : ℕ) → v < 65536 → mark ≡ v + 65536 * d → u ≡ v) where
+  there : (m : Map) → Laid m mem → 64 + 8 * a + 8 * b + 4 * c ≡ roadsAt m + 4 * r
+  there m L = omega (arith, roads-start m, L .parts, L .vertices)
+
+  starts-at : (m : Map) → Laid m mem → r < roadCount m → from ≡ roadAt m r .from
+  starts-at m L hr = from-is ∙ ap (λ (x : ℕ). getD mem x 0) (there m L) ∙ L .road r hr .from
+
+  ends-at : (m : Map) → Laid m mem → r < roadCount m → to ≡ roadAt m r .to
+  ends-at m L hr = to-is ∙ ap (λ (x : ℕ). getD mem (x + 1) 0) (there m L) ∙ L .road r hr .to
+
+  weighs : (m : Map) → Laid m mem → r < roadCount m → weight ≡ roadAt m r .weight
+  weighs m L hr = weight-is ∙ ap (λ (x : ℕ). getD mem (x + 2) 0) (there m L) ∙ L .road r hr .weight
+
+  pub by-another : (from ≡ u → ⊥) → ByRoad mem place p i r mem
+  by-another other m L hp hi hr N = road-from-another mem place m L p i r hp hi hr N (starts-at m L hr) (shown-vertex m mem L p i hp hi first-is mark-is reads) other
+
+  pub by-none : size ≤ j → ByRoad mem place p i r mem
+  by-none past m L hp hi hr N = road-past mem place m L p i r hp hi hr N (ends-at m L hr) at-is j-is size-is past
+
+  module _ {mark′ v : ℕ} (mark′-is : mark′ ≡ getD mem (first + 4 * j + 2) 0) (reads′ : (w d : ℕ) → w < 65536 → mark′ ≡ w + 65536 * d → v ≡ w) where
+    pub by-other : (to ≡ v → ⊥) → ByRoad mem place p i r mem
+    by-other other m L hp hi hr N =
+        road-to-another mem place m L p i r hp hi hr N (ends-at m L hr) at-is j-is (λ hj. shown-vertex m mem L p j hp hj first-is mark′-is reads′) other
+
+    pub by-own : {line column : ℕ} {after : List ℕ} → from ≡ u → j < size → to ≡ v → line ≡ table + size * i → column ≡ j → after ≡ lowered mem (line + column) weight → ByRoad mem place p i r after
+    by-own starts within ends line-is column-is after-is m L hp hi hr N =
+        road-taken mem place m L p i r hp hi hr N (starts-at m L hr) (ends-at m L hr) (weighs m L hr) (shown-vertex m mem L p i hp hi first-is mark-is reads) starts size-is within
+        (λ hj. shown-vertex m mem L p j hp hj first-is mark′-is reads′) ends table-is line-is column-is after-is
 
 -- ---- all roads from one vertex
 
