@@ -35,9 +35,10 @@ same-length-2 : tie.Need-same-length-2
 same-length-2 c = search needs
 
 returns : tie.Need-returns
-returns c =
-    (risen-step _ _ _ _ _ _ (c .before .before .before .before .before .before .before .before .before .before .before .before .before .before .before .before .before .before .before .before .before .before .before .before .of-part .ensures) (c .before .before .before .before .before .before .before .before .before .before .before .before .before .before .before .before .before .before .before .before .before .before .of-part2 .ensures) (c .before .before .before .before .before .before .before .before .before .before .before .before .before .before .before .before .before .before .before .before .blank-at .ensures) (c .before .before .before .before .before .before .before .before .before .before .before .before .before .before .before .note-rows .ensures .0) (c .before .before .before .before .before .before .before .before .before .before .take-roads .ensures .0) (c .before .before .before .before .before .before .agree .ensures .0) (c .before .before .close .ensures .0),
-    (c .before .before .close .ensures .1 ∙ c .before .before .before .before .before .before .agree .ensures .1 ∙ c .before .before .before .before .before .before .before .before .before .before .take-roads .ensures .1 ∙ c .before .before .before .before .before .before .before .before .before .before .before .before .before .before .before .before .before .before .before .before .blank-at .ensures .sized, c .before .before .before .before .before .before .before .before .before .before .before .before .before .before .before .note-rows .ensures .1))
+returns c = (
+  risen-step _ _ _ _ _ _ (c .before .before .before .before .before .before .before .before .before .before .before .before .before .before .before .before .before .before .before .before .before .before .before .before .of-part .ensures) (c .before .before .before .before .before .before .before .before .before .before .before .before .before .before .before .before .before .before .before .before .before .before .of-part2 .ensures) (c .before .before .before .before .before .before .before .before .before .before .before .before .before .before .before .before .before .before .before .before .blank-at .ensures) (c .before .before .before .before .before .before .before .before .before .before .before .before .before .before .before .note-rows .ensures .0) (c .before .before .before .before .before .before .before .before .before .before .take-roads .ensures .0) (c .before .before .before .before .before .before .agree .ensures .0) (c .before .before .close .ensures .0),
+  (c .before .before .close .ensures .1 ∙ c .before .before .before .before .before .before .agree .ensures .1 ∙ c .before .before .before .before .before .before .before .before .before .before .take-roads .ensures .1 ∙ c .before .before .before .before .before .before .before .before .before .before .before .before .before .before .before .before .before .before .before .before .blank-at .ensures .sized, c .before .before .before .before .before .before .before .before .before .before .before .before .before .before .before .note-rows .ensures .1),
+)
 
 pub rise-spec : {M : Type 1} → statement M
 rise-spec =
