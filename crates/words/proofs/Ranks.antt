@@ -1,16 +1,18 @@
 -- How many of the numbers below n pass a test: the place that n has, if it passes, among those that do.
 -- Assumes nothing.
 use mathlib.Core.Path.{_≡_, refl, ap, sym, _∙_}
+use mathlib.Core.Logic.{inl, inr}
 use mathlib.Core.Bool.{Bool, true, false, cond}
 use mathlib.Core.List.{List, [], _∷_, _++_, List·Memᴰ, List·Memᴰ·head, List·Memᴰ·tail}
 use Prim.Native.Nat.{ℕ, zero, suc, _+_, _-_, _≤_, _<_}
 use native.Mathlib.Nat.{zero-add}
 use native.Mathlib.Omega.{arith}
-use lib.ListN.{length, length-append}
+use lib.ListN.{length, getD, length-append}
 use lib.Dec.{eqb}
 use borrow.Author.Tests.{eq-eqb, ne-eqb}
 use Rattle.words.specs.Lists.{countFrom, upTo, placeIn, keep}
 use Rattle.words.specs.Ranks.{rank}
+use Rattle.words.proofs.Tests.{true-or-false}
 use Rattle.words.proofs.Lists.{countFrom-below, keep-says}
 
 pub countFrom-join : (a n k : ℕ) → countFrom a (n + k) ≡ countFrom a n ++ countFrom (a + n) k
@@ -93,3 +95,17 @@ module _ (test : ℕ → Bool) where
       first =
           ap (λ (k : ℕ). keep test (countFrom v k)) (let some : n - v ≡ suc (n - suc v) = omega arith in some)
           ∙ ap (λ (b : Bool). cond b (v ∷ keep test (countFrom (suc v) (n - suc v))) (keep test (countFrom (suc v) (n - suc v)))) e
+
+  -- no more than there are numbers
+  pub rank-most : (v : ℕ) → rank test v ≤ v
+  rank-most zero = omega (arith, rank-none)
+  rank-most (suc v) = elim (true-or-false (test v)) [ inl e ↦ omega (arith, rank-kept v e, rank-most v) | inr e ↦ omega (arith, rank-left v e, rank-most v) ]
+
+-- a test that passes for the first r entries and for no other
+pub keep-first : {A : Type 0} (test : A → Bool) (d : A) (xs : List A) (r : ℕ) → r ≤ length xs → ((i : ℕ) → i < r → test (getD xs i d) ≡ true)
+    → ((i : ℕ) → r ≤ i → i < length xs → test (getD xs i d) ≡ false) → length (keep test xs) ≡ r
+keep-first test d [] r h passes fails = omega arith
+keep-first test d (x ∷ xs) zero h passes fails =
+    rw (fails 0 (omega arith) (omega arith)) (keep-first test d xs zero (omega arith) (λ i k. absurd (omega arith)) (λ i low k. fails (suc i) (omega arith) (omega arith)))
+keep-first test d (x ∷ xs) (suc r) h passes fails =
+    rw (passes 0 (omega arith)) (ap suc (keep-first test d xs r (omega arith) (λ i k. passes (suc i) (omega arith)) (λ i low k. fails (suc i) (omega arith) (omega arith))))

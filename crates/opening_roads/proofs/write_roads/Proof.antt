@@ -42,8 +42,7 @@ loop-again c =
     let args = c .before .before .before .before .before .before .before .before .before .before .before .before .args in
     let loop = c .before .before .before .before .before .before .before .before .loop in
     let loop-test = c .before .before .before .before .before .before .before .loop-test in
-    let write-road = c .before .before .before .before .write-road in
-    (
+    let write-road = c .before .before .before .before .write-road in (
       omega (arith, loop .inv .0),
       write-road .kept .1 .1 .1 .0 ∙ loop .inv .1,
       write-road .kept .1 .1 .1 .1 .0 ∙ loop .inv .2,
