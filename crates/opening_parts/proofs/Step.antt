@@ -26,7 +26,7 @@ use Rattle.image.specs.Image.{nextSibling, partRecord}
 use Rattle.image.proofs.Records.{rows-start, rows-end}
 use Rattle.records.specs.Written.{Written}
 use Rattle.records.proofs.Written.{written-none, written-down}
-use Rattle.opening_parts.specs.Parts.{partWords, Ready, PartsStand}
+use Rattle.opening_parts.specs.Parts.{partWords, Sized, Ready, PartsStand}
 
 -- the square of a number below 2^16
 pub square-fits : (x : ℕ) → x < 65536 → x * x < 4294967296
@@ -210,3 +210,22 @@ module _ (m : Map) (parents sizes : List ℕ) (parts tablesEnd rowsEnd : ℕ) (c
 
     pub families-more : Families m p cs′ table′ row′
     families-more = record { first = first-now; table-at = table-is; row-at = row-is }
+
+-- Only the rows.
+module _ (m : Map) (sizes : List ℕ) (parts rowsEnd : ℕ) (given : Sized m sizes parts rowsEnd) where
+  pub rows-last : rowsEnd ≡ firstRowOf m parts
+  unfolding firstRowOf rowCount
+  rows-last = given .rows ∙ sym (rows-end m) ∙ ap (λ (k : ℕ). rowsAt m + 4 * rowsBelow m k) (sym (given .count))
+
+  pub rows-back : (p next size row row′ : ℕ) → next ≡ p + 1 → p < parts → (word sizes p < 65536 → size ≡ word sizes p) → (4 * size ≤ row → row′ + 4 * size ≡ row) → row ≡ firstRowOf m next → row′ ≡ firstRowOf m p
+  unfolding firstRowOf rowsBelow
+  rows-back p next size row row′ more some is-size back at =
+      let here : p < partCount m = omega (arith, given .count) in
+      let size-is : size ≡ sizeOf m p = is-size (omega (arith, given .shown p here, given .small p here)) ∙ given .shown p here in
+      let later : next ≡ suc p = omega arith in
+      let one-on : firstRowOf m next ≡ firstRowOf m p + 4 * size = omega (arith, ap (firstRowOf m) later, sum-last (sizeOf m) p, size-is) in
+      omega (arith, at, one-on, back (omega (arith, at, one-on)))
+
+  pub rows-first : (row : ℕ) → row ≡ firstRowOf m 0 → row ≡ rowsAt m
+  unfolding firstRowOf rowsBelow
+  rows-first row at = omega (arith, at)

@@ -17,6 +17,13 @@ use Rattle.records.specs.Written.{Written}
 abbrev pub partWords : ℕ → ℕ → ℕ → ℕ → ℕ → ℕ → List ℕ
 partWords parent size row table child sibling = parent ∷ size ∷ row ∷ table ∷ child ∷ sibling ∷ 0 ∷ 0 ∷ []
 
+-- what is lent shows the sizes of the parts of m, and where its rows end
+pub record Sized (m : Map) (sizes : List ℕ) (parts rowsEnd : ℕ) : Type 0 where
+  pub count : parts ≡ partCount m
+  pub rows : rowsEnd ≡ need m
+  pub shown : ShowsSizes m sizes
+  pub small : (p : ℕ) → p < partCount m → sizeOf m p < 65536
+
 -- what is lent shows the parts of m and has room for them, and no part has a child yet
 pub record Ready (m : Map) (parents sizes : List ℕ) (parts tablesEnd rowsEnd : ℕ) (children mem : List ℕ) : Type 0 where
   pub count : parts ≡ partCount m

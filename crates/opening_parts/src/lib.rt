@@ -10,7 +10,8 @@ ghost use lib.ListN.{set};
 ghost use lib.Seq.{sets};
 ghost use Rattle.words.specs.Lists.{word};
 ghost use Rattle.roads.specs.Map.{Map};
-ghost use Rattle.opening_parts.specs.Parts.{partWords, Ready, PartsStand};
+ghost use Rattle.image.specs.Places.{rowsAt};
+ghost use Rattle.opening_parts.specs.Parts.{partWords, Sized, Ready, PartsStand};
 
 // A size, whose square is below 2^32; 0 for a number that is none.
 fn limited(size: u32) -> u32
@@ -87,4 +88,19 @@ pub fn write_parts(
         write_part(mem, 64 + 8 * p, parent, size, row, table, child, sibling);
         next = p;
     }
+}
+
+// Where the rows begin that end at `rows_end`.
+pub fn rows_begin(sizes: &[u32], parts: u32, rows_end: u32) -> u32
+    ensures { λ r. ⌜ ((m : Map) → Sized m (now (sizes .entry)) parts «rows_end» → r ≡ rowsAt m) ⌝ }
+{
+    let mut row = rows_end;
+    let mut next = parts;
+    while 0 < next {
+        let p = next - 1;
+        let size = limited(word(sizes, wide(p)));
+        row = start_of(row, 4 * size);
+        next = p;
+    }
+    row
 }
