@@ -11,6 +11,7 @@ use lib.Seq.{sets}
 use Rattle.words.specs.Lists.{word}
 use Rattle.words.proofs.Sums.{InRecord, in-record, record-within}
 use Rattle.words.proofs.Stores.{stored-in, stored-out}
+use Rattle.records.specs.Cleared.{cleared}
 use Rattle.records.specs.Written.{Within, Written}
 use Rattle.records.specs.Agrees.{Agrees}
 
@@ -18,6 +19,9 @@ module _ (target : List ℕ) where
   pub agrees-join : (low middle high : ℕ) (mem : List ℕ) → Agrees target low middle mem → Agrees target middle high mem → Agrees target low high mem
   agrees-join low middle high mem p q =
       record { at = λ a from to. elim (decLt a middle) [ yes below ↦ p .at a from below | no above ↦ q .at a (omega (arith, above)) to ] }
+
+  pub agrees-within : (low high low′ high′ : ℕ) (mem : List ℕ) → low ≤ low′ → high′ ≤ high → Agrees target low high mem → Agrees target low′ high′ mem
+  agrees-within low high low′ high′ mem from to p = record { at = λ a above below. p .at a (omega arith) (omega arith) }
 
   -- the records written agree
   pub written-agrees : (base size n : ℕ) (recordOf : ℕ → List ℕ) (start mem : List ℕ) → Written base size 0 n recordOf start mem
@@ -65,13 +69,15 @@ module _ (target : List ℕ) where
       apart a from to j h place (inr after) = omega arith
 
   -- n words 0
-  pub cleared-agrees : (mem mem′ : List ℕ) (at n : ℕ) → mem′ ≡ sets mem at (replicate n 0) → at + n ≤ length mem → ((j : ℕ) → j < n → word target (at + j) ≡ 0) → Agrees target at (at + n) mem′
+  pub cleared-agrees : (mem mem′ : List ℕ) (at n : ℕ) → mem′ ≡ cleared mem at n → at + n ≤ length mem → ((j : ℕ) → j < n → word target (at + j) ≡ 0) → Agrees target at (at + n) mem′
+  unfolding cleared
   cleared-agrees mem mem′ at n e fits is =
       let all : length {A = ℕ} (replicate n 0) ≡ n = length-replicate {A = ℕ} n 0 in
       let whole = stored-agrees mem mem′ at (replicate n 0) e (omega (arith, all)) (λ j h. let k : j < n = omega (arith, all) in is j k ∙ sym (getD-replicate n j 0 0 k)) in
       record { at = λ a from to. whole .at a from (omega (arith, all)) }
 
-  pub cleared-kept : (mem mem′ : List ℕ) (at n : ℕ) → mem′ ≡ sets mem at (replicate n 0) → (low high : ℕ) → (high ≤ at) ⊎ (at + n ≤ low) → Agrees target low high mem → Agrees target low high mem′
+  pub cleared-kept : (mem mem′ : List ℕ) (at n : ℕ) → mem′ ≡ cleared mem at n → (low high : ℕ) → (high ≤ at) ⊎ (at + n ≤ low) → Agrees target low high mem → Agrees target low high mem′
+  unfolding cleared
   cleared-kept mem mem′ at n e low high away p = stored-kept mem mem′ at (replicate n 0) e low high (by away) p
     where
       by : (high ≤ at) ⊎ (at + n ≤ low) → (high ≤ at) ⊎ (at + length {A = ℕ} (replicate n 0) ≤ low)

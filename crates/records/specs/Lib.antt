@@ -1,3 +1,4 @@
--- Records of one size, one after the other in a memory; and a memory that agrees with another.
+-- Words 0; records of one size, one after the other in a memory; and a memory that agrees with another.
+pub mod Cleared
 pub mod Written
 pub mod Agrees

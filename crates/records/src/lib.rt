@@ -3,8 +3,8 @@ use cells::put;
 use cells::wide;
 ghost use mathlib.Core.Path.{_≡_};
 ghost use mathlib.Core.List.{[], _∷_};
-ghost use lib.ListN.{replicate};
 ghost use lib.Seq.{sets};
+ghost use Rattle.records.specs.Cleared.{cleared};
 
 // Four words from `at` on.
 pub fn put4(mem: &mut [u32], at: u32, a: u32, b: u32, c: u32, d: u32)
@@ -19,7 +19,7 @@ pub fn put4(mem: &mut [u32], at: u32, a: u32, b: u32, c: u32, d: u32)
 
 // n words 0 from `at` on.
 pub fn clear(mem: &mut [u32], at: u32, n: u32)
-    ensures { λ _. ⌜ now (mem .exit) ≡ sets (now (mem .entry)) at (replicate n 0) ⌝ }
+    ensures { λ _. ⌜ now (mem .exit) ≡ cleared (now (mem .entry)) at n ⌝ }
 {
     let base = wide(at);
     let count = wide(n);

@@ -7,12 +7,14 @@ use native.Mathlib.Omega.{arith}
 use lib.ListN.{length, replicate}
 use lib.Seq.{sets}
 use borrow.Author.Needs.{needs}
+use Rattle.records.specs.Cleared.{cleared}
 use Rattle.records.proofs.Stores.{Clearing, clearing-none, clearing-more, clearing-all}
 use Rattle.records.proofs.clear.Statement.{statement}
 use Rattle.records.proofs.clear.Tie as tie
 
-cleared : (start mem : List ℕ) (at n base count i : ℕ) → base ≡ at → count ≡ n → count ≤ i → Clearing start base count mem i → mem ≡ sets start at (replicate n 0)
-cleared start mem at n base count i b k h l = clearing-all start base count mem i h l ∙ ap₂ (λ (a c : ℕ). sets start a (replicate c 0)) b k
+all-cleared : (start mem : List ℕ) (at n base count i : ℕ) → base ≡ at → count ≡ n → count ≤ i → Clearing start base count mem i → mem ≡ cleared start at n
+unfolding cleared
+all-cleared start mem at n base count i b k h l = clearing-all start base count mem i h l ∙ ap₂ (λ (a c : ℕ). sets start a (replicate c 0)) b k
 
 abbrev Inv-loop : tie.InvT-loop
 Inv-loop mem₀ at n base count i₀ mem i = Clearing mem₀ base count mem i × (length mem ≡ length mem₀)
@@ -61,7 +63,7 @@ returns c =
     let wide2 = c .before .before .wide2 in
     let loop = c .before .loop in
     let loop-test = c .loop-test in
-    cleared (args .mem .now) (loop .mem) (args .at) (args .n) (wide .result) (wide2 .result) (loop .i) (wide .ensures) (wide2 .ensures) (loop-test .left) (loop .inv .0)
+    all-cleared (args .mem .now) (loop .mem) (args .at) (args .n) (wide .result) (wide2 .result) (loop .i) (wide .ensures) (wide2 .ensures) (loop-test .left) (loop .inv .0)
 
 pub clear-spec : {M : Type 1} → statement M
 clear-spec =
