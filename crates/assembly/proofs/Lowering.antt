@@ -50,9 +50,9 @@ module _ (mem : List ℕ) (a x : ℕ) where
 
   pub lowered-less : a < length mem → (y : ℕ) → getD (lowered mem a x) y 0 ≤ getD mem y 0
   lowered-less h y = elim (ℕ-discrete y a) [
-      | yes same ↦ subst⁻¹ (λ (k : ℕ). getD (lowered mem a x) k 0 ≤ getD mem k 0) same (omega (arith, lowered-at h))
-      | no other ↦ omega (arith, lowered-other y other)
-    ]
+    | yes same ↦ subst⁻¹ (λ (k : ℕ). getD (lowered mem a x) k 0 ≤ getD mem k 0) same (omega (arith, lowered-at h))
+    | no other ↦ omega (arith, lowered-other y other)
+  ]
 
 -- every word of a table is within the memory
 pub entry-fits : (m : Map) (mem : List ℕ) → Laid m mem → (q i j : ℕ) → q < partCount m → i < sizeOf m q → j < sizeOf m q →

@@ -65,7 +65,7 @@ module _ (m : Map) where
       here same =
           let wide : sizeOf m r ≡ sizeOf m q = ap (sizeOf m) (sym same) in
           let both = places-differ (sizeOf m q) i j k l hj (subst (λ (n : ℕ). l < n) wide hl)
-              (omega (arith, ap (tableOf m) same, ap (λ (n : ℕ). n * k) wide)) in
+          (omega (arith, ap (tableOf m) same, ap (λ (n : ℕ). n * k) wide)) in
           record { part = same; row = both .0; column = both .1 }
 
   -- ---- outside the tables

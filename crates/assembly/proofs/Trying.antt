@@ -34,9 +34,9 @@ module _ (m : Map) (before after : List ℕ) (L : Laid m before) (q k : ℕ) (hq
 
   pub tried-other : (r i j : ℕ) → (r ≡ q → ⊥) → i < sizeOf m r → j < sizeOf m r → entry m after r i j ≡ entry m before r i j
   tried-other r i j other hi hj = made .outside (tableOf m r + (sizeOf m r * i + j)) (elim (decLt r q) [
-      | yes less ↦ inl (omega (arith, tables-apart m r q less, entry-to m r i j hi hj))
-      | no more ↦ inr (omega (arith, tables-apart m q r (omega (arith, more, other))))
-    ])
+    | yes less ↦ inl (omega (arith, tables-apart m r q less, entry-to m r i j hi hj))
+    | no more ↦ inr (omega (arith, tables-apart m q r (omega (arith, more, other))))
+  ])
 
   pub tried-lower : (low : ℕ) → low ≤ q → Lower m low before after
   tried-lower low hl = record {
@@ -81,9 +81,9 @@ module _ (m : Map) (before after : List ℕ) (L : Laid m before) (q k : ℕ) (hq
   -- and by any row that was tried before
   pub tried-keeps : (r l : ℕ) → r < partCount m → l < sizeOf m r → Tight m r l before → Tight m r l after
   tried-keeps r l hr hl tight i j hi hj = elim (ℕ-discrete r q) [
-      | yes same ↦ here r same hl tight hi hj
-      | no other ↦ omega (arith, tried-other r i j other hi hj, tried-other r i l other hi hl, tried-other r l j other hl hj, tight i j hi hj)
-    ]
+    | yes same ↦ here r same hl tight hi hj
+    | no other ↦ omega (arith, tried-other r i j other hi hj, tried-other r i l other hi hl, tried-other r l j other hl hj, tight i j hi hj)
+  ]
     where
       own : l < sizeOf m q → Tight m q l before → i < sizeOf m q → j < sizeOf m q → entry m after q i j ≤ entry m after q i l + entry m after q l j
       own hl tight hi hj =
