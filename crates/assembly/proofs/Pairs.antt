@@ -188,3 +188,97 @@ module _ {m : Map} {low p n : ℕ} {start before after : List ℕ} (hl : low ≤
       down-new c i j same hj =
           subst⁻¹ (λ (k : ℕ). RowIn m p k c → RowIn m p j c → entry m after c (placeBelow m p k c) (placeBelow m p j c) ≤ entry m start p k j) same (λ ri rj.
           omega (arith, B .down c j hj ri rj, A .lower .less p n j hl hp hn hj))
+
+-- ---- turns of the loops
+
+pub leveled-length : (mem : List ℕ) (a b : ℕ) → length (leveled mem a b) ≡ length mem
+unfolding leveled
+leveled-length mem a b = length-set (lowered mem a (getD mem b 0)) b _ ∙ length-set mem a _
+
+module _ (start : List ℕ) (size first line c firstBelow lineBelow : ℕ) where
+  abbrev pub RowTo : ℕ → List ℕ → Type 0
+  RowTo j mem = (m : Map) (low p i : ℕ) → Laid m start → low ≤ p → p < partCount m → i < sizeOf m p → Lines m p i c size first line firstBelow lineBelow → AgreedRow m low p i j start mem
+
+  pub row-turn : (before after : List ℕ) (j : ℕ) → j < size → RowTo j before →
+      ((m : Map) (low p i size : ℕ) → Laid m before → low ≤ p → p < partCount m → i < sizeOf m p → j < sizeOf m p → Lines m p i c size first line firstBelow lineBelow → AgreedPair m low p i j before after) →
+      RowTo (j + 1) after
+  row-turn before after j hj done pair m low p i L hl hp hi at =
+      let A = done m low p i L hl hp hi at in
+      let fits : j < sizeOf m p = omega (arith, at .size-is) in
+      row-step hl hp hi fits L A (pair m low p i size (laid-kept m start before (A .lower .sized) (A .lower .outside) L) hl hp hi fits at)
+
+  pub row-done : (mem : List ℕ) (j : ℕ) → j ≤ size → size ≤ j → RowTo j mem → (m : Map) (low p i : ℕ) → Laid m start → low ≤ p → p < partCount m → i < sizeOf m p →
+      Lines m p i c size first line firstBelow lineBelow → AgreedRow m low p i (sizeOf m p) start mem
+  row-done mem j within all done m low p i L hl hp hi at =
+      subst (λ (n : ℕ). AgreedRow m low p i n start mem) (omega (arith, at .size-is)) (done m low p i L hl hp hi at)
+
+module _ (start : List ℕ) (p : ℕ) where
+  abbrev pub RowsTo : ℕ → List ℕ → Type 0
+  RowsTo i mem = (m : Map) (low : ℕ) → Laid m start → low ≤ p → p < partCount m → Agreed m low p i start mem
+
+  pub rows-turn : {size : ℕ} (before after : List ℕ) (i : ℕ) → i < size → size ≡ getD start (64 + 8 * p + 1) 0 → RowsTo i before →
+      ((m : Map) (low : ℕ) → Laid m before → low ≤ p → p < partCount m → i < sizeOf m p → AgreedRow m low p i (sizeOf m p) before after) → RowsTo (i + 1) after
+  rows-turn before after i hi shown done row m low L hl hp =
+      let A = done m low L hl hp in
+      let fits : i < sizeOf m p = omega (arith, L .part p hp .size) in
+      agreed-step hl hp fits L A (row m low (laid-kept m start before (A .lower .sized) (A .lower .outside) L) hl hp fits)
+
+  pub rows-done : {size : ℕ} (mem : List ℕ) (i : ℕ) → i ≤ size → size ≤ i → size ≡ getD start (64 + 8 * p + 1) 0 → RowsTo i mem →
+      (m : Map) (low : ℕ) → Laid m start → low ≤ p → p < partCount m → Agreed m low p (sizeOf m p) start mem
+  rows-done mem i within all shown done m low L hl hp =
+      subst (λ (n : ℕ). Agreed m low p n start mem) (omega (arith, L .part p hp .size)) (done m low L hl hp)
+
+-- ---- row i as the words of the memory show it
+
+-- no child holds it: nothing is to be done
+pub row-alone : (mem : List ℕ) {p i c first mark : ℕ} → first ≡ getD mem (64 + 8 * p + 2) 0 → mark ≡ getD mem (first + 4 * i + 2) 0 →
+    ((v d : ℕ) → v < 65536 → mark ≡ v + 65536 * d → c ≡ d) → c ≡ 0 →
+    (m : Map) (low : ℕ) → Laid m mem → low ≤ p → p < partCount m → i < sizeOf m p → AgreedRow m low p i (sizeOf m p) mem mem
+row-alone mem {p} {i} {c} {first} first-is shown reads none m low L hl hp hi = record {
+  lower = lower-none m low mem;
+  up = λ d j _ di _. absurd (nowhere d di);
+  down = λ d j _ di _. absurd (nowhere d di);
+}
+  where
+    nowhere : (d : ℕ) → RowIn m p i d → ⊥
+    nowhere d di =
+        children-says m p d (di .is-child) .2 (sym (part-below m (L .sound) p i d hi di)
+        ∙ sym (reads (rowVertex m p i) (partBelow m p (rowVertex m p i)) (vertex-small m mem L p i hi)
+        (shown ∙ ap (λ (f : ℕ). getD mem (f + 4 * i + 2) 0) (first-is ∙ L .part p hp .first-row) ∙ L .row p i hp hi .mark)) ∙ none)
+
+-- the child that holds it, and its row there
+module _ (mem : List ℕ) {p i c first mark row firstBelow k : ℕ} (first-is : first ≡ getD mem (64 + 8 * p + 2) 0) (shown : mark ≡ getD mem (first + 4 * i + 2) 0)
+    (reads : (v d : ℕ) → v < 65536 → mark ≡ v + 65536 * d → c ≡ d) (some : c ≡ 0 → ⊥)
+    (below-is : firstBelow ≡ getD mem (64 + 8 * c + 2) 0) (points : row ≡ getD mem (first + 4 * i + 3) 0) (finds : (n : ℕ) → row ≡ firstBelow + 4 * n → k ≡ n)
+    (m : Map) (L : Laid m mem) (hp : p < partCount m) (hi : i < sizeOf m p) where
+  is-c : c ≡ partBelow m p (rowVertex m p i)
+  is-c =
+      reads (rowVertex m p i) (partBelow m p (rowVertex m p i)) (vertex-small m mem L p i hi)
+      (shown ∙ ap (λ (f : ℕ). getD mem (f + 4 * i + 2) 0) (first-is ∙ L .part p hp .first-row) ∙ L .row p i hp hi .mark)
+
+  pub row-held-in : RowIn m p i c
+  row-held-in = subst⁻¹ (RowIn m p i) is-c (part-below-says m (L .sound) p i hi (λ none. some (is-c ∙ none)))
+
+  pub row-child : (c < partCount m) × (p < c)
+  row-child = child-later m (L .sound) p c (row-held-in .is-child)
+
+  pub row-place : k ≡ placeBelow m p i c
+  row-place =
+      finds (placeBelow m p i c)
+      (points ∙ ap (λ (f : ℕ). getD mem (f + 4 * i + 3) 0) (first-is ∙ L .part p hp .first-row) ∙ L .row p i hp hi .below ∙ row-below m (L .sound) p i c hi row-held-in
+      ∙ ap (λ (f : ℕ). f + 4 * placeBelow m p i c) (sym (below-is ∙ L .part c (row-child .0) .first-row)))
+
+  pub row-lines : {size table sizeBelow tableBelow line lineBelow : ℕ} → size ≡ getD mem (64 + 8 * p + 1) 0 → table ≡ getD mem (64 + 8 * p + 3) 0 →
+      sizeBelow ≡ getD mem (64 + 8 * c + 1) 0 → tableBelow ≡ getD mem (64 + 8 * c + 3) 0 → line ≡ table + size * i → lineBelow ≡ tableBelow + sizeBelow * k →
+      Lines m p i c size first line firstBelow lineBelow
+  row-lines size-is table-is size-below-is table-below-is line-is line-below-is =
+      let own = L .part p hp in
+      let child = L .part c (row-child .0) in
+      record {
+        row-in = row-held-in;
+        size-is = size-is ∙ own .size;
+        first-is = first-is ∙ own .first-row;
+        line-is = line-is ∙ rw (table-is ∙ own .table, size-is ∙ own .size);
+        first-below-is = below-is ∙ child .first-row;
+        line-below-is = line-below-is ∙ rw (table-below-is ∙ child .table, size-below-is ∙ child .size, row-place);
+      }
