@@ -247,3 +247,8 @@ all-filled start mem small m L D = record {
             | no real ↦ inr (omega (arith, L .sound .part p hp .parent (omega (arith, real))))
           ]) i j (dist m (rowVertex m p i) (rowVertex m p j)) hi hj (dist-exact m (sound-net m (L .sound)) (rowVertex m p i) (rowVertex m p j) (row-real m p i hi) .reached near)
     ]
+
+-- as the code has it
+pub filled : (start mid mem : List ℕ) (wide : ℕ) → ((x : ℕ) → getD mem x 0 < 4294967296) → 4096 ≤ wide → ((m : Map) → Laid m start → 4096 ≤ wide → Risen m 0 start mid) →
+    ((m : Map) (first : List ℕ) → Laid m first → Descended m 0 first mid → Descended m (partCount m) first mem) → (m : Map) → Laid m start → Filled m start mem
+filled start mid mem wide small few rise descend m L = all-filled start mem small m L (descend m start L (descent-begins m start mid L (rise m L few)))

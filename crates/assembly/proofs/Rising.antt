@@ -227,3 +227,6 @@ module _ (start : List ℕ) (wide : ℕ) where
       let K = laid-kept m start before (A .sized) (A .outside) L in
       let S = step m K (omega (arith, L .parts)) few (subst⁻¹ (λ (x : ℕ). Inside m x before) next (A .inside)) in
       record { sized = S .sized ∙ A .sized; outside = λ x out. S .outside x out ∙ A .outside x out; inside = S .inside }
+
+  pub risen-done : (mem : List ℕ) (p : ℕ) → p ≤ 0 → RisenTo p mem → (m : Map) → Laid m start → 4096 ≤ wide → Risen m 0 start mem
+  risen-done mem p none done m L few = subst (λ (n : ℕ). Risen m n start mem) (omega arith) (done m L few)
