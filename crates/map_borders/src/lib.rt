@@ -1,4 +1,5 @@
 // The lift of each vertex and the size of each part of a map that keeps the other rules, and the border limit: the last test for refusal 3.
+use counts::Counts;
 use map_bytes::number2;
 use map_parts::Part;
 use map_parts::entry;
@@ -56,10 +57,10 @@ fn lower(lifts: &mut [u32; 4096], v: u32, x: u32)
     requires { ⌜ length (now lifts) ≡ 4096 ⌝ }
     ensures { λ _. ⌜ now (lifts .exit) ≡ lowered (now (lifts .entry)) v x ⌝ }
 {
-    let at = v as usize;
-    if 4096 <= at {
+    if Counts::MOST_VERTICES <= v {
         return;
     }
+    let at = v as usize;
     lifts[at] = lesser(x, lifts[at]);
 }
 
@@ -93,10 +94,10 @@ fn bump(counts: &mut [u32; 512], p: u32)
     requires { ⌜ (length (now counts) ≡ 512) × ((q : ℕ) → word (now counts) q < 4294967295) ⌝ }
     ensures { λ _. ⌜ now (counts .exit) ≡ bumped (now (counts .entry)) p ⌝ }
 {
-    let at = p as usize;
-    if 512 <= at {
+    if Counts::MOST_PARTS <= p {
         return;
     }
+    let at = p as usize;
     counts[at] += 1;
 }
 

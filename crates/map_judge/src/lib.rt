@@ -13,7 +13,7 @@ ghost use mathlib.Core.Path.{_≡_};
 ghost use Prim.Native.Nat.{ℕ, _<_, _≤_};
 ghost use lib.ListN.{length};
 ghost use Rattle.words.specs.Lists.{word};
-ghost use Rattle.roads.specs.Map.{Map};
+ghost use Rattle.roads.specs.Map.{Map, partCount, roadCount};
 ghost use Rattle.maps.specs.Bytes.{countsOf, decode, roadsOf};
 ghost use Rattle.maps.specs.Judge.{sound, restFits, judge};
 ghost use Rattle.map_parts.specs.Part.{Shows};
@@ -21,6 +21,10 @@ ghost use Rattle.map_borders.specs.Sizes.{Lifts, Sizes};
 ghost use Rattle.map_judge.specs.Asked.{asked, leavesAt, roadsAt, Limited};
 ghost use Rattle.map_judge.specs.Need.{needOf};
 ghost use Rattle.map_judge.specs.Verdict.{told, ruled};
+
+const HEAD_WORDS: u32 = 64;
+
+const VANS: u32 = 1024;
 
 pub enum Judgement {
     // The map keeps every rule: its counts, and the words of memory that it needs.
@@ -91,7 +95,7 @@ fn need(counts: Counts, sizes: &[u32; 512]) -> u32
     let vertices = counts.vertices;
     let roads = counts.roads;
     let parts = counts.parts;
-    let mut words = 64 + 8 * (parts + vertices) + 4 * roads + 8 * 1024;
+    let mut words = HEAD_WORDS + 8 * (parts + vertices) + 4 * roads + 8 * VANS;
     let mut p: u32 = 0;
     while p < parts {
         let size = sizes[p as usize];
@@ -167,6 +171,26 @@ pub fn judge_map(map: &[u8]) -> Judgement
         return Judgement::Refused(1);
     }
     judge_shown(map, counts)
+}
+
+// Of a sound map: the parent of each part and the leaf of each vertex, as words.
+pub fn parts_of_map(map: &[u8], parents: &mut [u32; 512], leaves: &mut [u32; 4096])
+    requires { ⌜ (length (now parents) ≡ 512) × (length (now leaves) ≡ 4096) ⌝ }
+    ensures { λ _. ⌜ (length (now (parents .exit)) ≡ 512) × (length (now (leaves .exit)) ≡ 4096) × ((m : Map) → judge (now (map .entry)) ≡ sound m → Shows m (now (parents .exit)) (now (leaves .exit)) (m .vertices) (partCount m)) ⌝ }
+{
+    let counts = counts_of(map);
+    if !counts.fit() {
+        return;
+    }
+    show_parts(map, counts, parents, leaves);
+}
+
+// Of a sound map: the body of record 4, whose first entries are its roads.
+pub fn roads_of_map(map: &[u8]) -> &[u8]
+    ensures { λ r. ⌜ ((m : Map) → judge (now (map .entry)) ≡ sound m → m .roads ≡ roadsOf (roadCount m) (now r)) ⌝ }
+{
+    let counts = counts_of(map);
+    rest(map, roads_at(counts))
 }
 
 // Of a sound map: the lift of each vertex, and the number of rows of each part. The lifts start at 65,535, the sizes at 0.

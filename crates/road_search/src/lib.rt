@@ -72,6 +72,7 @@ fn lower(tree: &mut [u64; 1365], v: usize, key: u32)
     lower_node(tree, 21 + v / 64, new);
     lower_node(tree, 5 + v / 256, new);
     lower_node(tree, 1 + v / 1024, new);
+    lower_node(tree, 0, new);
 }
 
 // Node `i` of the level that starts at `level` shows `x` now. What its parent shows: the least of it and its three neighbours.
@@ -88,18 +89,16 @@ fn raise_node(tree: &mut [u64; 1365], level: usize, i: usize, x: u64) -> u64
     )
 }
 
-// `v` has ceased to wait: the nodes above it, from the bottom up. The vertex with the least key of all, if the tree is right.
-fn raise(keys: &[u32; 4096], tree: &mut [u64; 1365], v: usize) -> usize
+// `v` has ceased to wait: the nodes above it, from the bottom up.
+fn raise(keys: &[u32; 4096], tree: &mut [u64; 1365], v: usize)
     requires { ⌜ v < 4096 ⌝ }
-    ensures { λ r. ⌜ r < 65536 ⌝ }
 {
     let mut x = least_key(keys, v / 4 * 4);
     x = raise_node(tree, 341, v / 4, x);
     x = raise_node(tree, 85, v / 16, x);
     x = raise_node(tree, 21, v / 64, x);
     x = raise_node(tree, 5, v / 256, x);
-    x = raise_node(tree, 1, v / 1024, x);
-    (x % 65536) as usize
+    tree[0] = raise_node(tree, 1, v / 1024, x);
 }
 
 // The first vertex below `n` that waits, or `n`.
@@ -117,11 +116,12 @@ fn first_waiting(keys: &[u32; 4096], n: usize) -> usize
     n
 }
 
-// A vertex below `n` that waits, or `n`. The guess serves wherever it waits.
-fn pick(keys: &[u32; 4096], n: usize, guess: usize) -> usize
+// A vertex below `n` that waits, or `n`. The guess of the tree serves wherever it waits.
+fn pick(keys: &[u32; 4096], tree: &[u64; 1365], n: usize) -> usize
     requires { ⌜ n ≤ 4096 ⌝ }
     ensures { λ r. ⌜ Picked (now (keys .entry)) n r ⌝ }
 {
+    let guess = (tree[0] % 65536) as usize;
     if guess < n {
         if keys[guess] != FAR {
             return guess;
@@ -190,7 +190,7 @@ fn next_out(mem: &[u32], vertices_at: usize, n: usize, count: usize, u: usize) -
     count
 }
 
-// The vertex `u` is taken: it ceases to wait, and its roads out are relaxed. A guess of the vertex to take next.
+// The vertex `u` is taken: it ceases to wait, and its roads out are relaxed.
 fn turn(
     mem: &[u32],
     vertices_at: usize,
@@ -201,15 +201,15 @@ fn turn(
     labels: &mut [u32; 4096],
     keys: &mut [u32; 4096],
     tree: &mut [u64; 1365],
-) -> usize
+)
     requires { ⌜ Laid (now mem) «vertices_at» n «roads_at» count ⌝ }
     requires { ⌜ u < n ⌝ }
     requires { ⌜ length (now labels) ≡ mostVertices ⌝ }
-    ensures { λ r. ⌜ r < 65536 ⌝ }
     ensures { λ _. ⌜ now (labels .exit) ≡ relaxAll (outOf (now (mem .entry)) «vertices_at» n «roads_at» count u) (now (labels .entry)) ⌝ }
     ensures { λ _. ⌜ now (keys .exit) ≡ wakeAll (outOf (now (mem .entry)) «vertices_at» n «roads_at» count u) (now (labels .entry)) (set (now (keys .entry)) u FAR) ⌝ }
 {
     keys[u] = FAR;
+    raise(keys, tree, u);
     let first = index(mem[vertices_at + 8 * u + 2]);
     let next = next_out(mem, vertices_at, n, count, u);
     relax_out(
@@ -221,7 +221,6 @@ fn turn(
         keys,
         tree,
     );
-    raise(keys, tree, u)
 }
 
 // From labels and keys that are 0 at `a` and FAR elsewhere, turns until no vertex waits.
@@ -244,8 +243,8 @@ fn run(
 {
     let mut u = a;
     while u < n {
-        let guess = turn(mem, vertices_at, n, roads_at, count, u, labels, keys, tree);
-        u = pick(keys, n, guess);
+        turn(mem, vertices_at, n, roads_at, count, u, labels, keys, tree);
+        u = pick(keys, tree, n);
     }
 }
 

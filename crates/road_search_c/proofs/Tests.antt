@@ -1,6 +1,6 @@
 -- The two answers of a test. Assumes nothing.
-use mathlib.Core.Path.{_≡_, sym}
-use mathlib.Core.Bool.{Bool, true, false, true≢false}
+use mathlib.Core.Path.{sym}
+use mathlib.Core.Bool.{true, false, true≢false}
 use Rattle.road_search_c.specs.Answer.{Decides}
 
 pub yes-so : {So : Type 0} → So → Decides true So

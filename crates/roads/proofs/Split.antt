@@ -1,8 +1,8 @@
 -- A shortest walk out of a set of vertices has a road that leaves the set, and the distance splits at both ends of that road.
 -- With the negated test the same law is about a walk into the set. Assumes nothing.
-use mathlib.Core.Path.{_≡_, sym, _∙_}
+use mathlib.Core.Path.{_≡_, sym, ap, _∙_}
 use mathlib.Core.Logic.{⊎-elim, _≢_}
-use mathlib.Core.Bool.{Bool, true, false, true≢false}
+use mathlib.Core.Bool.{Bool, true, false, not, true≢false}
 use mathlib.Core.List.{List·Memᴰ}
 use Prim.Native.Nat.{ℕ, _+_, _≤_, _<_}
 use native.Mathlib.Omega.{arith}
@@ -81,3 +81,8 @@ module _ (inside : ℕ → Bool) (m : Map) (net : Net m) where
       splits : {via v w : ℕ} → via < m .vertices → Walk m a via v → Walk m via b w → v + w ≤ dist m a b → dist m a b ≡ dist m a via + dist m via b
       splits {via} there first second whole =
           omega (arith, dist-triangle m net a ha via b there, dist-exact m net a via ha .least _ first, dist-exact m net via b there .least _ second, whole)
+
+-- a road that enters the set, where a walk leads into it
+pub dist-split-in : (inside : ℕ → Bool) (m : Map) → Net m → (a b : ℕ) → a < m .vertices → dist m a b ≢ FAR → inside a ≡ false → inside b ≡ true
+    → Split (λ v. not (inside v)) m a b
+dist-split-in inside m net a b ha real start end = dist-split (λ v. not (inside v)) m net a b ha real (ap not start) (ap not end)

@@ -1,5 +1,6 @@
-//! The search from one vertex to all others against a plain binary-heap Dijkstra: both over one generated network, each from the same
-//! vertices, in turn, several times; the least time of each counts. Every label is compared.
+//! The search from one vertex to all others against a plain binary-heap Dijkstra: both over one generated network, from the same
+//! vertices, turn by turn. Of each vertex and each side the least time of several rounds counts, so that a busy machine does not show.
+//! Every label is compared.
 
 use std::cmp::Reverse;
 use std::collections::BinaryHeap;
@@ -9,7 +10,7 @@ use roadgen::{network, road_words, Network, Plan, RoadWords, FAR};
 
 const VERTICES: usize = 4096;
 const SOURCES: usize = 256;
-const ROUNDS: usize = 15;
+const ROUNDS: usize = 25;
 const SEEDS: [u64; 3] = [1, 2, 3];
 
 extern "C" {
@@ -68,19 +69,71 @@ fn dijkstra(graph: &Graph, a: usize, labels: &mut [u32], heap: &mut BinaryHeap<R
     }
 }
 
-fn timed(work: impl FnOnce()) -> Duration {
-    let start = Instant::now();
-    work();
-    start.elapsed()
+/// Networks of many sizes, some of whose vertices cannot be reached: all labels from every vertex. And words that show no roads: refused.
+fn compare() {
+    let mut ours = [0; VERTICES];
+    let mut heap = BinaryHeap::new();
+    for (vertices, seed) in [(1, 1), (2, 1), (3, 2), (5, 3), (33, 4), (200, 5), (1000, 6)] {
+        let network = network(Plan { cut_off: 30, ..Plan::town(vertices) }, seed);
+        let (n, count) = (network.vertices(), network.roads.len());
+        let words = road_words(&network);
+        let graph = Graph::new(&network);
+        let mut theirs = vec![0; n];
+        for a in 0..n {
+            assert!(proved(&words, n, count, a, &mut ours));
+            dijkstra(&graph, a, &mut theirs, &mut heap);
+            assert_eq!(ours[..n], theirs[..], "labels from {a} of {n}");
+            assert!(ours[n..].iter().all(|&label| label == FAR));
+        }
+        let kept = ours;
+        let mut refused = |words: &RoadWords, n: usize, count: usize, a: usize| {
+            assert!(!proved(words, n, count, a, &mut ours));
+            assert_eq!(ours, kept, "a refused call changes no label");
+        };
+        refused(&words, n, count, n);
+        refused(&words, VERTICES + 1, count, 0);
+        refused(&words, n, count + 1, 0);
+        refused(&words, n, usize::MAX / 2, 0);
+        refused(&RoadWords { vertices_at: usize::MAX - 7, ..words.clone() }, n, count, 0);
+        for place in 0..4 * count {
+            let mut damaged = words.clone();
+            damaged.words[words.roads_at + place] = u32::MAX;
+            if place % 4 < 3 {
+                refused(&damaged, n, count, 0);
+            }
+        }
+        for v in 0..n {
+            let mut damaged = words.clone();
+            damaged.words[words.vertices_at + 8 * v + 2] += count as u32 + 1;
+            refused(&damaged, n, count, 0);
+        }
+    }
 }
 
-fn micros(total: Duration) -> f64 {
-    total.as_secs_f64() * 1e6 / SOURCES as f64
+/// The least time for each source so far.
+struct Least(Vec<Duration>);
+
+impl Least {
+    fn new() -> Self {
+        Least(vec![Duration::MAX; SOURCES])
+    }
+
+    fn time(&mut self, i: usize, work: impl FnOnce()) {
+        let start = Instant::now();
+        work();
+        self.0[i] = self.0[i].min(start.elapsed());
+    }
+
+    /// Microseconds for one source, on average.
+    fn micros(&self) -> f64 {
+        self.0.iter().sum::<Duration>().as_secs_f64() * 1e6 / SOURCES as f64
+    }
 }
 
 pub fn run() {
-    println!("search: {VERTICES} vertices, {SOURCES} sources, least of {ROUNDS} rounds, microseconds for one source");
-    let mut worst: f64 = 0.0;
+    compare();
+    println!("search: {VERTICES} vertices, {SOURCES} sources, least of {ROUNDS} rounds for each, microseconds for one source");
+    let mut greatest: f64 = 0.0;
     for seed in SEEDS {
         let network = network(Plan::town(VERTICES), seed);
         let (n, count) = (network.vertices(), network.roads.len());
@@ -90,38 +143,29 @@ pub fn run() {
         let mut heap = BinaryHeap::with_capacity(count);
         let mut ours = [0; VERTICES];
         let mut theirs = vec![0; n];
-        for &a in &sources {
-            assert!(proved(&words, n, count, a, &mut ours), "the words are laid out as the search needs them");
-            dijkstra(&graph, a, &mut theirs, &mut heap);
-            assert_eq!(ours[..n], theirs[..], "labels from {a}");
+        let [mut search, mut test, mut plain] = [Least::new(), Least::new(), Least::new()];
+        for round in 0..ROUNDS {
+            for (i, &a) in sources.iter().enumerate() {
+                plain.time(i, || dijkstra(&graph, a, &mut theirs, &mut heap));
+                let mut ran = false;
+                search.time(i, || ran = proved(&words, n, count, a, &mut ours));
+                if round == 0 {
+                    assert!(ran, "the words are laid out as the search needs them");
+                    assert_eq!(ours[..n], theirs[..], "labels from {a}");
+                }
+                // from a vertex that is none: the tests of the words alone
+                test.time(i, || ran = proved(&words, n, count, n, &mut ours));
+                assert!(!ran);
+            }
         }
-        let [mut search, mut test, mut plain] = [Duration::MAX; 3];
-        for _ in 0..ROUNDS {
-            plain = plain.min(timed(|| {
-                for &a in &sources {
-                    dijkstra(&graph, a, &mut theirs, &mut heap);
-                }
-            }));
-            search = search.min(timed(|| {
-                for &a in &sources {
-                    proved(&words, n, count, a, &mut ours);
-                }
-            }));
-            // from a vertex that is none: the tests alone
-            test = test.min(timed(|| {
-                for _ in &sources {
-                    proved(&words, n, count, n, &mut ours);
-                }
-            }));
-        }
-        let ratio = search.as_secs_f64() / plain.as_secs_f64();
-        worst = worst.max(ratio);
+        let (search, test, plain) = (search.micros(), test.micros(), plain.micros());
+        greatest = greatest.max(search / plain);
         println!(
-            "seed {seed}: {count} roads, proved {:.1} (its tests of the words {:.1}), plain {:.1}, ratio {ratio:.2}",
-            micros(search),
-            micros(test),
-            micros(plain),
+            "seed {seed}: {count} roads; plain {plain:.1}; proved {search:.1}, ratio {:.2}; without its tests of the words {:.1}, ratio {:.2}",
+            search / plain,
+            search - test,
+            (search - test) / plain,
         );
     }
-    println!("search: all labels equal, greatest ratio {worst:.2}");
+    println!("search: all labels equal, greatest ratio {greatest:.2}");
 }

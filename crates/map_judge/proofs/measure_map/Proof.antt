@@ -1,13 +1,12 @@
 -- `measure_map` measures the map that the bytes show.
 -- Assumes nothing.
 use mathlib.Core.Path.{refl, sym, ap, _∙_}
-use mathlib.Core.Bool.{true≢false}
 use mathlib.Core.List.{List}
 use Prim.Native.Nat.{ℕ}
 use lib.ListN.{drop}
 use borrow.Author.Needs.{needs}
 use borrow.Author.Tests.{not-true, not-false}
-use Rattle.map_judge.proofs.Shown.{limited, given-by, judged-counts}
+use Rattle.map_judge.proofs.Shown.{limited, given-by, not-judged}
 use Rattle.map_judge.proofs.measure_map.Statement.{statement}
 use Rattle.map_judge.proofs.measure_map.Tie as tie
 
@@ -21,7 +20,7 @@ returns : tie.Need-returns
 returns c = (
   c .before .before .before .before .pre .0,
   c .before .before .before .before .pre .2,
-  λ m judged. absurd (true≢false (sym (judged-counts _ m _ _ _ judged (c .before .before .counts-of .ensures .0)) ∙ sym (c .before .fit .ensures) ∙ not-true _ (c .if1 .taken))),
+  λ m judged. absurd (not-judged _ m _ _ _ judged (c .before .before .counts-of .ensures .0) (c .before .fit .ensures) (not-true _ (c .if1 .taken))),
 )
 
 show-parts-requires : tie.Need-show-parts-requires

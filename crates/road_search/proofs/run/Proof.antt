@@ -28,23 +28,23 @@ turn-requires c κs =
     (l .before .before .pre .0, (search needs, l .loop .inv .0 .labels-sized))
 
 pick-requires : tie.Need-pick-requires Inv-loop μ-loop
-pick-requires c κs = c .before .before .before .before .before .before .before .before .pre .0 .few
+pick-requires c κs = c .before .before .before .before .before .before .before .before .before .pre .0 .few
 
 loop-less : tie.Need-loop-less Inv-loop μ-loop
 loop-less c =
-    let t = c .before .before in
+    let t = c .before .before .before in
     let l = t .before .before .before .before .before in
     let given = l .before .before .pre in
-    rw (t .turn .ensures .1 .0, t .turn .ensures .1 .1)
+    rw (t .turn .ensures .0, t .turn .ensures .1)
     (going-less _ (laid-net (given .0)) _ (given .1 .0) (l .loop .u) _ (out-part (given .0) (l .loop .u) (search needs)) (search needs)
     (l .loop .inv .1 .waits (search needs)) (l .loop .inv .0))
 
 loop-again : tie.Need-loop-again Inv-loop μ-loop
 loop-again c =
-    let t = c .before .before in
+    let t = c .before .before .before in
     let l = t .before .before .before .before .before in
     let given = l .before .before .pre in (
-      rw (t .turn .ensures .1 .0, t .turn .ensures .1 .1)
+      rw (t .turn .ensures .0, t .turn .ensures .1)
           (going-turn _ (laid-net (given .0)) _ (given .1 .0) (l .loop .u) _ (out-part (given .0) (l .loop .u) (search needs))
           (out-whole (given .0) (l .loop .u) (search needs)) (l .loop .inv .0)),
       c .pick .ensures,

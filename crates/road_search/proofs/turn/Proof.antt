@@ -9,10 +9,10 @@ use Rattle.road_search.proofs.turn.Tie as tie
 
 -- where the roads out of `u` stand
 found-there : (c : tie.After-next-out)
-    → let s = c .before .before .before .before in
+    → let s = c .before .before .before .before .before .before .before in
     Found (s .args .mem .now) (s .args .roads-at) (s .args .u) (c .before .index .result) (c .next-out .result)
 found-there c =
-    let s = c .before .before .before .before in
+    let s = c .before .before .before .before .before .before .before in
     rw (c .before .index .ensures, c .next-out .ensures) (found (s .pre .0) (s .args .u) (s .pre .1 .0))
 
 mul-relax-out : tie.Need-mul-relax-out
@@ -27,14 +27,13 @@ sub-relax-out c = found-there c .ordered
 relax-out-requires : tie.Need-relax-out-requires
 relax-out-requires c κs =
     let numbered = c .before .before .before in
-    (found-there numbered .fan, numbered .before .before .before .before .pre .1 .1)
+    (found-there numbered .fan, numbered .before .before .before .before .before .before .before .pre .1 .1)
 
 returns : tie.Need-returns
 unfolding outOf
 returns c =
-    let relaxed = c .before .before .before in
-    let numbered = relaxed .before .before .before .before in
-    (c .raise .ensures, rw (← numbered .before .index .ensures, ← numbered .next-out .ensures) (relaxed .relax-out .ensures))
+    let numbered = c .before .before .before .before in
+    rw (← numbered .before .index .ensures, ← numbered .next-out .ensures) (c .relax-out .ensures)
 
 pub turn-spec : {M : Type 1} → statement M
 turn-spec =
@@ -49,9 +48,9 @@ turn-spec =
     (search needs)
     (search needs)
     (search needs)
+    (search needs)
     mul-relax-out
     add-relax-out
     sub-relax-out
     relax-out-requires
-    (search needs)
     returns)
