@@ -82,22 +82,20 @@ add-t28 : tie.Need-add-t28 Inv-loop μ-loop
 add-t28 c = omega arith
 
 returns-2 : tie.Need-returns-2 Inv-loop μ-loop
-returns-2 c =
-    (
-      omega arith,
-      λ stampOf.
-          room-left (c .before .before .loop .inv) (c .before .loop-test .left) _ (c .if3 .taken) (omega arith) stampOf
-          ∙ sym (offer-within _ _ _ (subst (λ (n : ℕ). c .before .before .before .before .before .before .before .args .far ≤ n) (c .before .before .before .before .before .before .limit .ensures stampOf) (c .before .before .before .before .before .if1 .left))),
-    )
+returns-2 c = (
+  omega arith,
+  λ stampOf.
+      room-left (c .before .before .loop .inv) (c .before .loop-test .left) _ (c .if3 .taken) (omega arith) stampOf
+      ∙ sym (offer-within _ _ _ (subst (λ (n : ℕ). c .before .before .before .before .before .before .before .args .far ≤ n) (c .before .before .before .before .before .before .limit .ensures stampOf) (c .before .before .before .before .before .if1 .left))),
+)
 
 returns-3 : tie.Need-returns-3 Inv-loop μ-loop
-returns-3 c =
-    (
-      omega arith,
-      λ stampOf.
-          no-room-left (c .before .before .loop .inv) (c .before .loop-test .left) _ (c .if3 .left) (omega arith) stampOf
-          ∙ sym (offer-within _ _ _ (subst (λ (n : ℕ). c .before .before .before .before .before .before .before .args .far ≤ n) (c .before .before .before .before .before .before .limit .ensures stampOf) (c .before .before .before .before .before .if1 .left))),
-    )
+returns-3 c = (
+  omega arith,
+  λ stampOf.
+      no-room-left (c .before .before .loop .inv) (c .before .loop-test .left) _ (c .if3 .left) (omega arith) stampOf
+      ∙ sym (offer-within _ _ _ (subst (λ (n : ℕ). c .before .before .before .before .before .before .before .args .far ≤ n) (c .before .before .before .before .before .before .limit .ensures stampOf) (c .before .before .before .before .before .if1 .left))),
+)
 
 pub offer-spec : {M : Type 1} → statement M
 offer-spec =
