@@ -1,0 +1,2 @@
+-- What the functions do to any list of words.
+pub mod Walk
