@@ -1,6 +1,6 @@
 -- The least of many distances, one more at a time.
 -- Assumes nothing.
-use mathlib.Core.Path.{_≡_, refl, ap}
+use mathlib.Core.Path.{_≡_, refl, ap, subst}
 use mathlib.Core.Logic.{_⊎_, inl, inr, ⊎-elim}
 use Prim.Native.Nat.{ℕ, suc, _+_, _≤_, _<_, min}
 use native.Mathlib.Nat.{eq-or-lt-of-le}
@@ -38,3 +38,7 @@ module _ (f : ℕ → ℕ) where
         below = below-next n r (l .below) (omega arith);
         found = ⊎-elim inl (λ s. inr (s .0, omega (arith, s .1), s .2)) (l .found);
       }
+
+  -- n is reached
+  pub least-all : {n k r : ℕ} → Least f n r → n ≡ k → Least f k r
+  least-all {r = r} l e = subst (λ (i : ℕ). Least f i r) e l

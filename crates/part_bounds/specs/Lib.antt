@@ -1,1 +1,2 @@
--- nothing
+-- Distances of a part's rows to the vertex asked at, and bounds.
+pub mod Bounds
