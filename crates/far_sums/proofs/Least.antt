@@ -42,3 +42,10 @@ module _ (f : ℕ → ℕ) where
   -- n is reached
   pub least-all : {n k r : ℕ} → Least f n r → n ≡ k → Least f k r
   least-all {r = r} l e = subst (λ (i : ℕ). Least f i r) e l
+
+  -- the same of a value that is no sum
+  pub least-lower-by : {n r w : ℕ} → Least f n r → w ≡ f n → w < r → Least f (n + 1) w
+  least-lower-by l e less = least-lower l (omega (arith, l .most)) less
+
+  pub least-stays-by : {n r w : ℕ} → Least f n r → w ≡ f n → r ≤ w → Least f (n + 1) r
+  least-stays-by {n} l e more = least-stays {w = min (f n) FAR} l refl (omega (arith, l .most))

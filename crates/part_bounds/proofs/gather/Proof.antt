@@ -11,7 +11,6 @@ use borrow.Author.Needs.{needs}
 use Rattle.part_bounds.proofs.gather.Statement.{statement}
 use Rattle.part_bounds.proofs.gather.Tie as tie
 
-
 abbrev Inv-loop : tie.InvT-loop
 Inv-loop mem first size dx places₀ near₀ count₀ i₀ places near count i = (i ≤ size) × Gathered mem first dx i places near count
 

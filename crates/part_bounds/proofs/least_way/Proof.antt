@@ -12,7 +12,6 @@ use borrow.Author.Needs.{needs}
 use Rattle.part_bounds.proofs.least_way.Statement.{statement}
 use Rattle.part_bounds.proofs.least_way.Tie as tie
 
-
 abbrev Inv-loop : tie.InvT-loop
 Inv-loop mem at places near count least₀ t₀ least t = (t ≤ count) × Least (wayIn mem at places near) t least
 
