@@ -1,0 +1,5 @@
+-- Laws that the functions cite.
+pub mod Shown
+pub mod Exact
+pub mod Heading
+pub mod Leaves
