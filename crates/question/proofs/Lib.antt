@@ -3,3 +3,4 @@ pub mod Shown
 pub mod Exact
 pub mod Heading
 pub mod Leaves
+pub mod Turns

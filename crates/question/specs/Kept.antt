@@ -65,9 +65,9 @@ pub record Coming (m : Map) (s : State) (x v : ℕ) : Type 0 where
   pub is-active : active m s v ≡ true
   pub reaches : dist m v x < FAR
 
--- its leaf has been looked at, or it lies in one of the n parts that wait
-abbrev pub Covered : Map → List ℕ → List ℕ → ℕ → ℕ → Type 0
-Covered m marks waits n v = (word marks (leafOf m v) ≡ 1) ⊎ ((t : ℕ) × (t < n) × (holds m (word waits t) v ≡ true))
+-- its leaf has been looked at, or it lies in one of the n parts that wait, of number `low` or a higher one
+abbrev pub Covered : Map → List ℕ → List ℕ → ℕ → ℕ → ℕ → Type 0
+Covered m marks waits n low v = (word marks (leafOf m v) ≡ 1) ⊎ ((t : ℕ) × (t < n) × (low ≤ word waits t) × (holds m (word waits t) v ≡ true))
 
 -- the leaf that a van heads into
 abbrev pub vanLeaf : Map → Slot → ℕ
@@ -92,9 +92,10 @@ pub record Searching (m : Map) (s : State) (x k : ℕ) (dx keys marks waits : Li
   pub honest : (v : ℕ) → v < m .vertices → dist m v x ≤ word dx v
   pub is-part : part < partCount m
   pub holds-x : holds m part x ≡ true
+  pub root-out : part ≡ 0 → out ≡ FAR
   pub gates : (b : ℕ) → boundary m part b ≡ true → word dx b ≤ dist m b x
   pub outside : (v : ℕ) → v < m .vertices → holds m part v ≡ false → out ≤ dist m v x
   pub waiting : (t : ℕ) → t < n → Waits m s x dx (word waits t) (word keys (word waits t))
-  pub inside : (v : ℕ) → Coming m s x v → holds m part v ≡ true → Covered m marks waits n v
-  pub keyed : (q : ℕ) → word keys q < FAR → (v : ℕ) → Coming m s x v → holds m q v ≡ true → Covered m marks waits n v
+  pub inside : (v : ℕ) → Coming m s x v → holds m part v ≡ true → Covered m marks waits n part v
+  pub keyed : (q : ℕ) → word keys q < FAR → (v : ℕ) → Coming m s x v → holds m q v ≡ true → Covered m marks waits n q v
   pub list : found ≡ take k (sorted (keep (isOffered m s marks) (comingFrom m x 0 (s .vans))))
