@@ -296,3 +296,15 @@ module _ (k : ℕ) (some : 1 ≤ k) (all : List Listed) (distinct : Distinct all
                 enough = omega (arith, enough, length-take k (sorted (keep done all)));
                 after = λ z h. before-if z y (inl (omega (arith, most z h, far)));
               }
+
+  -- the limit of the best is below FAR
+  pub limit-below : (done : Listed → Bool) (best : List Listed) → best ≡ bestOf done → limitOf k best < FAR
+  unfolding limitOf
+  limit-below done best e = omega (arith, ap (limitOf k) e, by (decLt (length (bestOf done)) k))
+    where
+      by : Dec (length (bestOf done) < k) → cond (ltb (length (bestOf done)) k) 4294967294 (getD (bestOf done) (k - 1) (listed (λ v. 0) 0 0) .distance) < FAR
+      by (yes less) = rw (lt-ltb (length (bestOf done)) k less) (omega arith)
+      by (no full′) =
+          let last = getD-in (bestOf done) (k - 1) (listed (λ v. 0) 0 0) (omega (arith, full′)) in
+          rw (le-ltb (length (bestOf done)) k (omega (arith, full′)))
+          (near (getD (bestOf done) (k - 1) (listed (λ v. 0) 0 0)) (in-best done _ (take-from k (sorted (keep done all)) _ last) .0))

@@ -4,3 +4,4 @@ pub mod Exact
 pub mod Heading
 pub mod Leaves
 pub mod Turns
+pub mod Ends

@@ -224,7 +224,7 @@ module _ {m : Map} {s : State} {mem : List ℕ} (g : Genuine m s mem) (x : ℕ) 
         (true-or-false (holds m c x)))
 
   -- distances that were made less are still no farther
-  closer-waits : {dx dx′ : List ℕ} {q key : ℕ} → ((u : ℕ) → word dx′ u ≤ word dx u) → Waits m s x dx q key → Waits m s x dx′ q key
+  pub closer-waits : {dx dx′ : List ℕ} {q key : ℕ} → ((u : ℕ) → word dx′ u ≤ word dx u) → Waits m s x dx q key → Waits m s x dx′ q key
   closer-waits less w =
       record { is-part = w .is-part; apart = w .apart; gates = λ b e. omega (arith, less b, w .gates b e); bound = w .bound }
 
