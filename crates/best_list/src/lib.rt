@@ -26,6 +26,16 @@ pub fn comes_first(far: u32, van: u32, there: u32, rival: u32) -> bool
 impl BestList {
     pub const MOST: usize = 32;
 
+    pub fn empty() -> BestList
+        ensures { λ r. ⌜ r .len ≡ 0 ⌝ }
+    {
+        BestList {
+            fars: [0; 32],
+            vans: [0; 32],
+            len: 0,
+        }
+    }
+
     // What is farther than this is not listed any more: the distance of the k-th van, and 4,294,967,294 while there are fewer.
     pub fn limit(self, k: usize) -> u32
         requires { ⌜ (self .len ≤ k) × (1 ≤ k) × (k ≤ 32) ⌝ }

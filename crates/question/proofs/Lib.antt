@@ -5,3 +5,4 @@ pub mod Heading
 pub mod Leaves
 pub mod Turns
 pub mod Ends
+pub mod Calls

@@ -4,7 +4,7 @@ use mathlib.Core.Path.{_≡_}
 use mathlib.Core.Logic.{_⊎_, _≢_}
 use mathlib.Core.Bool.{Bool, true, false}
 use mathlib.Core.List.{List}
-use Prim.Native.Nat.{ℕ, _≤_, _<_}
+use Prim.Native.Nat.{ℕ, _+_, _≤_, _<_}
 use lib.ListN.{length, set, take}
 use lib.Dec.{eqb}
 use Rattle.words.specs.Limits.{FAR}
@@ -16,14 +16,15 @@ use Rattle.parts.specs.Border.{boundary}
 use Rattle.maps.specs.Sound.{Sound}
 use Rattle.fleet.specs.State.{Slot, absent, present, State, slotOf, headOf, active}
 use Rattle.fleet.specs.Good.{Good}
-use Rattle.fleet.specs.Question.{Listed, comingFrom, sorted}
+use Rattle.fleet.specs.Question.{Listed, comingFrom, sorted, nearest}
 use Rattle.image.specs.Image.{image}
 use Rattle.places.specs.Place.{countsIn}
 use Rattle.best_list.specs.declared.BestList.{BestList}
 use Rattle.best_list.specs.Best.{entries, offeredAll}
 use Rattle.van_offers.specs.Offers.{stampIn, leafOffers}
 use Rattle.far_sums.specs.Least.{Least}
-use Rattle.part_bounds.specs.Bounds.{partWord, rowsIn, Closer, Spread, outOf}
+use Rattle.part_bounds.specs.Bounds.{partWord, rowsIn, Closer, Spread, outOf, farCount}
+use Rattle.question.specs.declared.Search.{Search}
 
 -- words that an opening of m and changes that led to s left behind
 pub record Genuine (m : Map) (s : State) (mem : List ℕ) : Type 0 where
@@ -99,3 +100,28 @@ pub record Searching (m : Map) (s : State) (x k : ℕ) (dx keys marks waits : Li
   pub inside : (v : ℕ) → Coming m s x v → holds m part v ≡ true → Covered m marks waits n part v
   pub keyed : (q : ℕ) → word keys q < FAR → (v : ℕ) → Coming m s x v → holds m q v ≡ true → Covered m marks waits n q v
   pub list : found ≡ take k (sorted (keep (isOffered m s marks) (comingFrom m x 0 (s .vans))))
+
+-- A turn.
+
+-- what is so of any words: it ends, since the parts without a key, those that wait and the number of the part climbed to grow less together
+pub record Shrunk (k : ℕ) (keys waits : List ℕ) (st : Search) (keys′ waits′ : List ℕ) (st′ : Search) : Type 0 where
+  pub few : st′ .best .len ≤ k
+  pub waits-length : length waits′ ≡ 512
+  pub total : farCount keys′ + st′ .waiting ≤ 512
+  pub shrinks : st′ .ended ≡ false → farCount keys′ + st′ .waiting + st′ .part < farCount keys + st .waiting + st .part
+
+-- what is so between two turns: it goes on, or the list is the answer
+abbrev pub GoesOn : (m : Map) (s : State) (x k : ℕ) (mem dx keys marks waits : List ℕ) (st : Search) → Type 0
+GoesOn m s x k mem dx keys marks waits st =
+    (st .ended ≡ false → Searching m s x k dx keys marks waits (st .part) (st .out) (st .waiting) (listIn mem (st .best)))
+    × (st .ended ≡ true → listIn mem (st .best) ≡ nearest m s x k)
+
+-- The arrays of a search before it starts.
+pub record Fresh (dx keys marks waits : List ℕ) : Type 0 where
+  pub dx-length : length dx ≡ 4096
+  pub no-distance : (v : ℕ) → v < 4096 → word dx v ≡ FAR
+  pub keys-length : length keys ≡ 512
+  pub no-key : (q : ℕ) → q < 512 → word keys q ≡ FAR
+  pub marks-length : length marks ≡ 512
+  pub no-mark : (q : ℕ) → word marks q ≡ 0
+  pub waits-length : length waits ≡ 512

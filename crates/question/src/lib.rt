@@ -1,23 +1,22 @@
 // The k nearest free vans to a vertex: best first over the parts, with bounds read from the rows.
 use best_list::BestList;
-use cells::put;
-use cells::wide;
-use cells::word;
+use cells::{put, wide, word};
 use far_sums::FAR;
-use part_bounds::nearest_waiting;
-use part_bounds::part_word;
-use part_bounds::relax;
-use part_bounds::rows_in;
-use part_bounds::spread;
-use part_bounds::way_out;
+use part_bounds::{lower, nearest_waiting, part_word, relax, rows_in, spread, way_out};
 use places::counts_in;
-use van_offers::offer_leaf;
-use van_offers::vertex_word;
+use van_offers::{offer_leaf, vertex_word};
 ghost use mathlib.Core.Path.{_≡_};
 ghost use mathlib.Core.Bool.{true, false};
-ghost use Prim.Native.Nat.{ℕ, _+_, _≤_, _<_, _^_};
-ghost use lib.ListN.{length};
+ghost use mathlib.Core.List.{List};
+ghost use Prim.Native.Nat.{ℕ, _+_, _-_, _≤_, _<_, _^_};
+ghost use lib.ListN.{length, set};
+ghost use Rattle.words.specs.Limits.{FAR};
+ghost use Rattle.words.specs.Lists.{word};
+ghost use Rattle.roads.specs.Map.{Map};
+ghost use Rattle.fleet.specs.State.{State};
+ghost use Rattle.fleet.specs.Question.{nearest};
 ghost use Rattle.part_bounds.specs.Bounds.{farCount};
+ghost use Rattle.question.specs.Kept.{Genuine, listIn, LeafTaken, OpenedUp, BoundOutside, Searching, Shrunk, GoesOn, Fresh};
 
 // A search between two turns: the best so far, the part climbed to, the bound of what lies outside it, and how many parts wait.
 pub struct Search {
@@ -29,16 +28,9 @@ pub struct Search {
 }
 
 // A leaf is looked at, once: its vertices get their distances, and their vans are offered.
-fn take_leaf(
-    mem: &[u32],
-    leaf: u32,
-    dx: &mut [u32],
-    marks: &mut [u32],
-    best: BestList,
-    k: usize,
-) -> BestList
+fn take_leaf(mem: &[u32], leaf: u32, dx: &mut [u32], marks: &mut [u32], best: BestList, k: usize) -> BestList
     requires { ⌜ (best .len ≤ k) × (1 ≤ k) × (k ≤ 32) ⌝ }
-    ensures { λ r. ⌜ r .len ≤ k ⌝ }
+    ensures { λ r. ⌜ LeafTaken (now (mem .entry)) leaf (now (dx .entry)) (now (marks .entry)) best k (now (dx .exit)) (now (marks .exit)) r ⌝ }
 {
     let p = wide(leaf);
     if word(marks, p) == 1 {
@@ -52,16 +44,9 @@ fn take_leaf(
 }
 
 // A part with children is opened up: its borders get their distances, and its children wait.
-fn open_up(
-    mem: &[u32],
-    part: u32,
-    dx: &mut [u32],
-    keys: &mut [u32],
-    waits: &mut [u32],
-    n: usize,
-) -> usize
+fn open_up(mem: &[u32], part: u32, dx: &mut [u32], keys: &mut [u32], waits: &mut [u32], n: usize) -> usize
     requires { ⌜ (farCount (now keys) + n ≤ 512) × (length (now waits) ≡ 512) ⌝ }
-    ensures { λ r. ⌜ farCount (now (keys .exit)) + r ≤ farCount (now (keys .entry)) + n ⌝ }
+    ensures { λ r. ⌜ OpenedUp (now (mem .entry)) part (now (dx .entry)) (now (keys .entry)) (now (waits .entry)) n (now (dx .exit)) (now (keys .exit)) (now (waits .exit)) r ⌝ }
 {
     let p = wide(part);
     relax(mem, p, dx);
@@ -69,7 +54,9 @@ fn open_up(
 }
 
 // The bound of what lies outside a part: FAR for the root.
-fn bound_outside(mem: &[u32], part: u32, dx: &[u32]) -> u32 {
+fn bound_outside(mem: &[u32], part: u32, dx: &[u32]) -> u32
+    ensures { λ r. ⌜ BoundOutside (now (mem .entry)) part (now (dx .entry)) r ⌝ }
+{
     if part == 0 {
         return FAR;
     }
@@ -77,12 +64,42 @@ fn bound_outside(mem: &[u32], part: u32, dx: &[u32]) -> u32 {
     way_out(mem, p, part, dx)
 }
 
-// The place `at` of those that wait is given up.
+// The part at place `at` of those that wait is given up: the last of them takes its place.
 fn give_up(waits: &mut [u32], at: usize, n: usize) -> u32
     requires { ⌜ (at < n) × (n ≤ 512) ⌝ }
+    ensures { λ r. ⌜ (r ≡ word (now (waits .entry)) at) × (now (waits .exit) ≡ set (now (waits .entry)) at (word (now (waits .entry)) (n - 1))) ⌝ }
 {
     let part = word(waits, at);
     let last = word(waits, n - 1);
     put(waits, at, last);
     part
+}
+
+// The search climbs to the part above: its siblings wait.
+fn climb(mem: &[u32], k: usize, dx: &mut [u32], keys: &mut [u32], waits: &mut [u32], s: Search) -> Search
+    requires { ⌜ (s .best .len ≤ k) × (farCount (now keys) + s .waiting ≤ 512) × (length (now waits) ≡ 512) ⌝ }
+    ensures { λ r. ⌜ Shrunk k (now (keys .entry)) (now (waits .entry)) s (now (keys .exit)) (now (waits .exit)) r × ((m : Map) (fleet : State) (x : ℕ) (marks : List ℕ) → Genuine m fleet (now (mem .entry)) → x < m .vertices → Searching m fleet x k (now (dx .entry)) (now (keys .entry)) marks (now (waits .entry)) (s .part) (s .out) (s .waiting) (listIn (now (mem .entry)) (s .best)) → s .out < FAR → GoesOn m fleet x k (now (mem .entry)) (now (dx .exit)) (now (keys .exit)) marks (now (waits .exit)) r) ⌝ }
+{
+    let part = s.part;
+    let best = s.best;
+    let above = part_word(mem, wide(part), 0);
+    if part <= above {
+        return Search {
+            best: best,
+            part: part,
+            out: s.out,
+            waiting: s.waiting,
+            ended: true,
+        };
+    }
+    lower(keys, wide(part), 0);
+    let n = open_up(mem, above, dx, keys, waits, s.waiting);
+    let out = bound_outside(mem, above, dx);
+    Search {
+        best: best,
+        part: above,
+        out: out,
+        waiting: n,
+        ended: false,
+    }
 }
