@@ -4,12 +4,15 @@ use mathlib.Core.Path.{_≡_, refl, sym, ap, subst, subst⁻¹, _∙_}
 use mathlib.Core.Logic.{_≢_}
 use mathlib.Core.Bool.{Bool, true, false, true≢false}
 use mathlib.Core.List.{List}
-use Prim.Native.Nat.{ℕ, _+_, _-_, _≤_, _<_}
+use Prim.Native.Nat.{ℕ, _+_, _-_, _≤_, _<_, min}
+use native.Mathlib.Decide.{ℕ-discrete}
 use native.Mathlib.Omega.{arith}
-use lib.ListN.{length, set}
+use lib.ListN.{length, set, length-set}
 use Rattle.words.specs.Limits.{FAR}
 use Rattle.words.specs.Lists.{word}
 use Rattle.roads.specs.Map.{Map}
+use Rattle.parts.specs.Tree.{isLeaf}
+use Rattle.parts.proofs.Gates.{no-first-child, some-first-child}
 use Rattle.counts.specs.declared.Counts.{Counts}
 use Rattle.fleet.specs.State.{State}
 use Rattle.fleet.specs.Question.{nearest}
@@ -18,12 +21,13 @@ use Rattle.best_list.specs.declared.BestList.{BestList}
 use Rattle.best_list.specs.Best.{entries, limitOf, offeredAll}
 use Rattle.van_offers.specs.Offers.{stampIn, leafOffers}
 use Rattle.far_sums.specs.Least.{Least}
-use Rattle.part_bounds.specs.Bounds.{partWord, rowsIn, lowered, Closer, Spread, outOf, farCount}
+use Rattle.part_bounds.specs.Bounds.{partWord, rowsIn, lowered, Closer, Spread, outOf, keyAt, farCount}
 use Rattle.part_bounds.proofs.Spreading.{far-lowered}
 use Rattle.question.specs.declared.Search.{Search}
 use Rattle.question.specs.Kept.{Genuine, listIn, Relaxed, LeafTaken, OpenedUp, BoundOutside, Searching, Shrunk, GoesOn}
-use Rattle.question.proofs.Shown.{parent-read}
-use Rattle.question.proofs.Turns.{climbed}
+use Rattle.question.proofs.Shown.{parent-read, child-read}
+use Rattle.question.proofs.Turns.{fewer, climbed, part-taken}
+use Rattle.question.proofs.Ends.{leaf-again, leaf-taken, stopped, limit-near}
 
 module _ (mem : List ℕ) (leaf : ℕ) (dx marks : List ℕ) (best : BestList) (k : ℕ) {p mark : ℕ} (isPart : p ≡ leaf) (isMark : mark ≡ word marks p) where
   mark-is : mark ≡ word marks leaf
@@ -123,3 +127,92 @@ module _ (mem : List ℕ) (k : ℕ) (dx keys waits : List ℕ) (st : Search) (fe
 
       fewer : farCount keys₁ ≤ farCount keys
       fewer = omega (arith, ap farCount isKeys, far-lowered keys keyed 0)
+
+-- Taking a waiting part, and a turn.
+module _ (mem : List ℕ) (k : ℕ) (dx keys marks waits : List ℕ) (st : Search) where
+  -- what a turn ensures
+  abbrev pub Goes : List ℕ → List ℕ → List ℕ → List ℕ → Search → Type 0
+  Goes dx′ keys′ marks′ waits′ st′ =
+      Shrunk k keys waits st keys′ waits′ st′
+      × ((m : Map) (fleet : State) (x : ℕ) → Genuine m fleet mem → x < m .vertices
+      → Searching m fleet x k dx keys marks waits (st .part) (st .out) (st .waiting) (listIn mem (st .best)) → GoesOn m fleet x k mem dx′ keys′ marks′ waits′ st′)
+
+  module _ (few : st .best .len ≤ k) (some : 1 ≤ k) (total : farCount keys + st .waiting ≤ 512) (long : length waits ≡ 512) where
+    module _ (at : ℕ) (h : at < st .waiting) {q wide child : ℕ} {waits₁ : List ℕ} (isPart : q ≡ word waits at) (isWaits : waits₁ ≡ set waits at (word waits (st .waiting - 1)))
+        (isWide : wide ≡ q) (isChild : child ≡ partWord mem wide 4) where
+      fits : st .waiting ≤ length waits
+      fits = omega (arith, long)
+
+      child-is : child ≡ partWord mem (word waits at) 4
+      child-is = isChild ∙ ap (λ (p : ℕ). partWord mem p 4) (isWide ∙ isPart)
+
+      pub leaf-goes : {dx′ marks′ : List ℕ} {best′ : BestList} → child ≡ 0 → LeafTaken mem q dx marks (st .best) k dx′ marks′ best′
+          → Goes dx′ keys marks′ waits₁ (record { best = best′; part = st .part; out = st .out; waiting = st .waiting - 1; ended = false })
+      leaf-goes {dx′} {marks′} {best′} none taken = (
+        record {
+          few = taken .few;
+          waits-length = ap length isWaits ∙ length-set waits at (word waits (st .waiting - 1)) ∙ long;
+          total = omega (arith, total);
+          shrinks = λ e. omega (arith, h);
+        },
+        λ m fleet x g hx s. (
+          λ e. subst⁻¹ (λ (ws : List ℕ). Searching m fleet x k dx′ keys marks′ ws (st .part) (st .out) (st .waiting - 1) (listIn mem best′)) isWaits (leaf-searching m fleet x g hx s),
+          λ e. absurd (true≢false (sym e)),
+        ),
+      )
+        where
+          look : LeafTaken mem (word waits at) dx marks (st .best) k dx′ marks′ best′
+          look = subst (λ (p : ℕ). LeafTaken mem p dx marks (st .best) k dx′ marks′ best′) isPart taken
+
+          leaf-searching : (m : Map) (fleet : State) (x : ℕ) → Genuine m fleet mem → x < m .vertices
+              → Searching m fleet x k dx keys marks waits (st .part) (st .out) (st .waiting) (listIn mem (st .best))
+              → Searching m fleet x k dx′ keys marks′ (fewer waits at (st .waiting) h fits) (st .part) (st .out) (st .waiting - 1) (listIn mem best′)
+          leaf-searching m fleet x g hx s = by (ℕ-discrete (word marks (word waits at)) 1)
+            where
+              leaf : isLeaf m (word waits at) ≡ true
+              leaf = no-first-child m (word waits at) (sym (child-read g (word waits at) (s .waiting at h .is-part)) ∙ sym child-is ∙ none)
+
+              by : Dec (word marks (word waits at) ≡ 1)
+                  → Searching m fleet x k dx′ keys marks′ (fewer waits at (st .waiting) h fits) (st .part) (st .out) (st .waiting - 1) (listIn mem best′)
+              by (no fresh) =
+                  let (relaxed, isMarks, found) = look .first fresh in
+                  leaf-taken g x hx k some s at h fits leaf fresh (record { relaxed = relaxed; marks-are = isMarks; found-are = found })
+              by (yes marked) =
+                  let (same-dx, same-marks, same-best) = look .again marked in
+                  subst⁻¹ (λ (b : BestList). Searching m fleet x k dx′ keys marks′ (fewer waits at (st .waiting) h fits) (st .part) (st .out) (st .waiting - 1) (listIn mem b)) same-best
+                  (subst⁻¹ (λ (ms : List ℕ). Searching m fleet x k dx′ keys ms (fewer waits at (st .waiting) h fits) (st .part) (st .out) (st .waiting - 1) (listIn mem (st .best))) same-marks
+                  (subst⁻¹ (λ (ds : List ℕ). Searching m fleet x k ds keys marks (fewer waits at (st .waiting) h fits) (st .part) (st .out) (st .waiting - 1) (listIn mem (st .best))) same-dx
+                  (leaf-again g x hx k some s at h fits leaf marked)))
+
+      pub part-goes : {dx′ keys′ waits′ : List ℕ} {n′ : ℕ} → child ≢ 0 → OpenedUp mem q dx keys waits₁ (st .waiting - 1) dx′ keys′ waits′ n′
+          → Goes dx′ keys′ marks waits′ (record { best = st .best; part = st .part; out = st .out; waiting = n′; ended = false })
+      part-goes {dx′} {keys′} {waits′} {n′} real opened = (
+        record {
+          few = few;
+          waits-length = opened .1 .waits-length;
+          total = omega (arith, opened .1 .total, total);
+          shrinks = λ e. omega (arith, opened .1 .total, h);
+        },
+        λ m fleet x g hx s. (
+          λ e.
+              part-taken g x hx s at h fits
+              (some-first-child m (word waits at) (λ zero′. real (child-is ∙ child-read g (word waits at) (s .waiting at h .is-part) ∙ zero′)))
+              (subst (λ (p : ℕ). OpenedUp mem p dx keys (fewer waits at (st .waiting) h fits) (st .waiting - 1) dx′ keys′ waits′ n′) isPart
+              (subst (λ (ws : List ℕ). OpenedUp mem q dx keys ws (st .waiting - 1) dx′ keys′ waits′ n′) isWaits opened)),
+          λ e. absurd (true≢false (sym e)),
+        ),
+      )
+
+    -- the search ends
+    module _ {key limit least : ℕ} (isKey : Least (keyAt keys waits) (st .waiting) key) (isLimit : limit ≡ limitOf k (listIn mem (st .best))) (isLeast : least ≡ min (st .out) key) where
+      pub turn-ends : limit < least → Goes dx keys marks waits (record { best = st .best; part = st .part; out = st .out; waiting = st .waiting; ended = true })
+      turn-ends beyond = (
+        record { few = few; waits-length = long; total = total; shrinks = λ e. absurd (true≢false e) },
+        λ m fleet x g hx s. (λ e. absurd (true≢false e), λ e. stopped g x hx k some s key isKey (omega arith) (omega arith)),
+      )
+
+      pub turn-climbs : {dx′ keys′ waits′ : List ℕ} {st′ : Search} → least ≤ limit → st .out ≤ key
+          → Shrunk k keys waits st keys′ waits′ st′ × ((m : Map) (fleet : State) (x : ℕ) (ms : List ℕ) → Genuine m fleet mem → x < m .vertices
+          → Searching m fleet x k dx keys ms waits (st .part) (st .out) (st .waiting) (listIn mem (st .best)) → st .out < FAR → GoesOn m fleet x k mem dx′ keys′ ms waits′ st′)
+          → Goes dx′ keys′ marks waits′ st′
+      turn-climbs within nearer climbs = (climbs .0, λ m fleet x g hx s. climbs .1 m fleet x marks g hx s (omega (arith, limit-near g x hx k some s)))

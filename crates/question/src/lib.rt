@@ -1,14 +1,23 @@
 // The k nearest free vans to a vertex: best first over the parts, with bounds read from the rows.
 use best_list::BestList;
-use cells::{put, wide, word};
+use cells::put;
+use cells::wide;
+use cells::word;
 use far_sums::FAR;
-use part_bounds::{lower, nearest_waiting, part_word, relax, rows_in, spread, way_out};
+use part_bounds::lower;
+use part_bounds::nearest_waiting;
+use part_bounds::part_word;
+use part_bounds::relax;
+use part_bounds::rows_in;
+use part_bounds::spread;
+use part_bounds::way_out;
 use places::counts_in;
-use van_offers::{offer_leaf, vertex_word};
+use van_offers::offer_leaf;
+use van_offers::vertex_word;
 ghost use mathlib.Core.Path.{_≡_};
 ghost use mathlib.Core.Bool.{true, false};
 ghost use mathlib.Core.List.{List};
-ghost use Prim.Native.Nat.{ℕ, _+_, _-_, _≤_, _<_, _^_};
+ghost use Prim.Native.Nat.{ℕ, _+_, _-_, _≤_, _<_, _^_, min};
 ghost use lib.ListN.{length, set};
 ghost use Rattle.words.specs.Limits.{FAR};
 ghost use Rattle.words.specs.Lists.{word};
@@ -28,7 +37,14 @@ pub struct Search {
 }
 
 // A leaf is looked at, once: its vertices get their distances, and their vans are offered.
-fn take_leaf(mem: &[u32], leaf: u32, dx: &mut [u32], marks: &mut [u32], best: BestList, k: usize) -> BestList
+fn take_leaf(
+    mem: &[u32],
+    leaf: u32,
+    dx: &mut [u32],
+    marks: &mut [u32],
+    best: BestList,
+    k: usize,
+) -> BestList
     requires { ⌜ (best .len ≤ k) × (1 ≤ k) × (k ≤ 32) ⌝ }
     ensures { λ r. ⌜ LeafTaken (now (mem .entry)) leaf (now (dx .entry)) (now (marks .entry)) best k (now (dx .exit)) (now (marks .exit)) r ⌝ }
 {
@@ -44,7 +60,14 @@ fn take_leaf(mem: &[u32], leaf: u32, dx: &mut [u32], marks: &mut [u32], best: Be
 }
 
 // A part with children is opened up: its borders get their distances, and its children wait.
-fn open_up(mem: &[u32], part: u32, dx: &mut [u32], keys: &mut [u32], waits: &mut [u32], n: usize) -> usize
+fn open_up(
+    mem: &[u32],
+    part: u32,
+    dx: &mut [u32],
+    keys: &mut [u32],
+    waits: &mut [u32],
+    n: usize,
+) -> usize
     requires { ⌜ (farCount (now keys) + n ≤ 512) × (length (now waits) ≡ 512) ⌝ }
     ensures { λ r. ⌜ OpenedUp (now (mem .entry)) part (now (dx .entry)) (now (keys .entry)) (now (waits .entry)) n (now (dx .exit)) (now (keys .exit)) (now (waits .exit)) r ⌝ }
 {
@@ -76,7 +99,14 @@ fn give_up(waits: &mut [u32], at: usize, n: usize) -> u32
 }
 
 // The search climbs to the part above: its siblings wait.
-fn climb(mem: &[u32], k: usize, dx: &mut [u32], keys: &mut [u32], waits: &mut [u32], s: Search) -> Search
+fn climb(
+    mem: &[u32],
+    k: usize,
+    dx: &mut [u32],
+    keys: &mut [u32],
+    waits: &mut [u32],
+    s: Search,
+) -> Search
     requires { ⌜ (s .best .len ≤ k) × (farCount (now keys) + s .waiting ≤ 512) × (length (now waits) ≡ 512) ⌝ }
     ensures { λ r. ⌜ Shrunk k (now (keys .entry)) (now (waits .entry)) s (now (keys .exit)) (now (waits .exit)) r × ((m : Map) (fleet : State) (x : ℕ) (marks : List ℕ) → Genuine m fleet (now (mem .entry)) → x < m .vertices → Searching m fleet x k (now (dx .entry)) (now (keys .entry)) marks (now (waits .entry)) (s .part) (s .out) (s .waiting) (listIn (now (mem .entry)) (s .best)) → s .out < FAR → GoesOn m fleet x k (now (mem .entry)) (now (dx .exit)) (now (keys .exit)) marks (now (waits .exit)) r) ⌝ }
 {
@@ -102,4 +132,83 @@ fn climb(mem: &[u32], k: usize, dx: &mut [u32], keys: &mut [u32], waits: &mut [u
         waiting: n,
         ended: false,
     }
+}
+
+// A waiting part is taken: a leaf is looked at, a part with children is opened up.
+fn take_waiting(
+    mem: &[u32],
+    k: usize,
+    dx: &mut [u32],
+    keys: &mut [u32],
+    marks: &mut [u32],
+    waits: &mut [u32],
+    s: Search,
+    at: usize,
+) -> Search
+    requires { ⌜ (s .best .len ≤ k) × (1 ≤ k) × (k ≤ 32) × (farCount (now keys) + s .waiting ≤ 512) × (length (now waits) ≡ 512) × (at < s .waiting) ⌝ }
+    ensures { λ r. ⌜ Shrunk k (now (keys .entry)) (now (waits .entry)) s (now (keys .exit)) (now (waits .exit)) r × ((m : Map) (fleet : State) (x : ℕ) → Genuine m fleet (now (mem .entry)) → x < m .vertices → Searching m fleet x k (now (dx .entry)) (now (keys .entry)) (now (marks .entry)) (now (waits .entry)) (s .part) (s .out) (s .waiting) (listIn (now (mem .entry)) (s .best)) → GoesOn m fleet x k (now (mem .entry)) (now (dx .exit)) (now (keys .exit)) (now (marks .exit)) (now (waits .exit)) r) ⌝ }
+{
+    let n = s.waiting;
+    let best = s.best;
+    let q = give_up(waits, at, n);
+    let left = n - 1;
+    if part_word(mem, wide(q), 4) == 0 {
+        let found = take_leaf(mem, q, dx, marks, best, k);
+        return Search {
+            best: found,
+            part: s.part,
+            out: s.out,
+            waiting: left,
+            ended: false,
+        };
+    }
+    let more = open_up(mem, q, dx, keys, waits, left);
+    Search {
+        best: best,
+        part: s.part,
+        out: s.out,
+        waiting: more,
+        ended: false,
+    }
+}
+
+fn lesser(a: u32, b: u32) -> u32
+    ensures { λ r. ⌜ r ≡ min a b ⌝ }
+{
+    if a < b { a } else { b }
+}
+
+// One turn: the search ends where all that is left is farther than the limit, and only then; else it takes the nearest.
+fn turn(
+    mem: &[u32],
+    k: usize,
+    dx: &mut [u32],
+    keys: &mut [u32],
+    marks: &mut [u32],
+    waits: &mut [u32],
+    s: Search,
+) -> Search
+    requires { ⌜ (s .best .len ≤ k) × (1 ≤ k) × (k ≤ 32) × (farCount (now keys) + s .waiting ≤ 512) × (length (now waits) ≡ 512) ⌝ }
+    ensures { λ r. ⌜ Shrunk k (now (keys .entry)) (now (waits .entry)) s (now (keys .exit)) (now (waits .exit)) r × ((m : Map) (fleet : State) (x : ℕ) → Genuine m fleet (now (mem .entry)) → x < m .vertices → Searching m fleet x k (now (dx .entry)) (now (keys .entry)) (now (marks .entry)) (now (waits .entry)) (s .part) (s .out) (s .waiting) (listIn (now (mem .entry)) (s .best)) → GoesOn m fleet x k (now (mem .entry)) (now (dx .exit)) (now (keys .exit)) (now (marks .exit)) (now (waits .exit)) r) ⌝ }
+{
+    let n = s.waiting;
+    let best = s.best;
+    let out = s.out;
+    let next = nearest_waiting(keys, waits, n);
+    let key = next.key;
+    let limit = best.limit(k);
+    if limit < lesser(out, key) {
+        return Search {
+            best: best,
+            part: s.part,
+            out: out,
+            waiting: n,
+            ended: true,
+        };
+    }
+    if out <= key {
+        return climb(mem, k, dx, keys, waits, s);
+    }
+    let at = next.at;
+    take_waiting(mem, k, dx, keys, marks, waits, s, at)
 }

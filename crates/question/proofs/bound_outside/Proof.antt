@@ -5,7 +5,6 @@ use borrow.Author.Needs.{needs}
 use Rattle.question.proofs.bound_outside.Statement.{statement}
 use Rattle.question.proofs.bound_outside.Tie as tie
 
-
 returns : tie.Need-returns
 returns c = bound-root _ _ _ (c .if1 .taken)
 

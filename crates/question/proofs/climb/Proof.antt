@@ -9,7 +9,6 @@ use borrow.Author.Needs.{needs}
 use Rattle.question.proofs.climb.Statement.{statement}
 use Rattle.question.proofs.climb.Tie as tie
 
-
 wide-requires : tie.Need-wide-requires
 wide-requires c κs = search needs
 

@@ -5,7 +5,6 @@ use borrow.Author.Needs.{needs}
 use Rattle.question.proofs.give_up.Statement.{statement}
 use Rattle.question.proofs.give_up.Tie as tie
 
-
 word-requires : tie.Need-word-requires
 word-requires c κs = search needs
 

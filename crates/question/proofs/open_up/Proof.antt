@@ -5,7 +5,6 @@ use borrow.Author.Needs.{needs}
 use Rattle.question.proofs.open_up.Statement.{statement}
 use Rattle.question.proofs.open_up.Tie as tie
 
-
 wide-requires : tie.Need-wide-requires
 wide-requires c κs = search needs
 
