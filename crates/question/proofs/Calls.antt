@@ -3,11 +3,11 @@
 use mathlib.Core.Path.{_≡_, refl, sym, ap, subst, subst⁻¹, _∙_}
 use mathlib.Core.Logic.{_≢_}
 use mathlib.Core.Bool.{Bool, true, false, true≢false}
-use mathlib.Core.List.{List}
-use Prim.Native.Nat.{ℕ, _+_, _-_, _≤_, _<_, min}
+use mathlib.Core.List.{List, []}
+use Prim.Native.Nat.{ℕ, zero, suc, _+_, _-_, _≤_, _<_, min}
 use native.Mathlib.Decide.{ℕ-discrete}
 use native.Mathlib.Omega.{arith}
-use lib.ListN.{length, set, length-set}
+use lib.ListN.{length, set, replicate, length-set, length-replicate, getD-replicate}
 use Rattle.words.specs.Limits.{FAR}
 use Rattle.words.specs.Lists.{word}
 use Rattle.roads.specs.Map.{Map}
@@ -15,19 +15,19 @@ use Rattle.parts.specs.Tree.{isLeaf}
 use Rattle.parts.proofs.Gates.{no-first-child, some-first-child}
 use Rattle.counts.specs.declared.Counts.{Counts}
 use Rattle.fleet.specs.State.{State}
-use Rattle.fleet.specs.Question.{nearest}
-use Rattle.places.specs.Place.{countsIn}
+use Rattle.fleet.specs.Question.{Listed, nearest}
+use Rattle.places.specs.Place.{countsIn, vertexAt}
 use Rattle.best_list.specs.declared.BestList.{BestList}
 use Rattle.best_list.specs.Best.{entries, limitOf, offeredAll}
 use Rattle.van_offers.specs.Offers.{stampIn, leafOffers}
 use Rattle.far_sums.specs.Least.{Least}
 use Rattle.part_bounds.specs.Bounds.{partWord, rowsIn, lowered, Closer, Spread, outOf, keyAt, farCount}
-use Rattle.part_bounds.proofs.Spreading.{far-lowered}
+use Rattle.part_bounds.proofs.Spreading.{far-lowered, far-most}
 use Rattle.question.specs.declared.Search.{Search}
-use Rattle.question.specs.Kept.{Genuine, listIn, Relaxed, LeafTaken, OpenedUp, BoundOutside, Searching, Shrunk, GoesOn}
-use Rattle.question.proofs.Shown.{parent-read, child-read}
+use Rattle.question.specs.Kept.{Genuine, listIn, Relaxed, LeafTaken, OpenedUp, BoundOutside, Searching, Shrunk, GoesOn, Fresh}
+use Rattle.question.proofs.Shown.{parent-read, child-read, leaf-read}
 use Rattle.question.proofs.Turns.{fewer, climbed, part-taken}
-use Rattle.question.proofs.Ends.{leaf-again, leaf-taken, stopped, limit-near}
+use Rattle.question.proofs.Ends.{FirstLook, leaf-again, leaf-taken, stopped, limit-near, started}
 
 module _ (mem : List ℕ) (leaf : ℕ) (dx marks : List ℕ) (best : BestList) (k : ℕ) {p mark : ℕ} (isPart : p ≡ leaf) (isMark : mark ≡ word marks p) where
   mark-is : mark ≡ word marks leaf
@@ -216,3 +216,82 @@ module _ (mem : List ℕ) (k : ℕ) (dx keys marks waits : List ℕ) (st : Searc
           → Searching m fleet x k dx keys ms waits (st .part) (st .out) (st .waiting) (listIn mem (st .best)) → st .out < FAR → GoesOn m fleet x k mem dx′ keys′ ms waits′ st′)
           → Goes dx′ keys′ marks waits′ st′
       turn-climbs within nearer climbs = (climbs .0, λ m fleet x g hx s. climbs .1 m fleet x marks g hx s (omega (arith, limit-near g x hx k some s)))
+
+-- how much is left to do
+abbrev pub leftOf : Bool → ℕ → ℕ
+leftOf true n = 0
+leftOf false n = suc n
+
+pub less-left : (e e′ : Bool) (n n′ : ℕ) → e ≡ false → (e′ ≡ false → n′ < n) → leftOf e′ n′ < leftOf e n
+less-left true e′ n n′ on less = absurd (true≢false on)
+less-left false true n n′ on less = omega arith
+less-left false false n n′ on less = omega (arith, less refl)
+
+-- the turns so far, and one more
+pub on-and-on : (mem : List ℕ) (k : ℕ) (dx₀ keys₀ marks₀ waits₀ : List ℕ) (st₀ : Search) (dx keys marks waits : List ℕ) (st : Search) (dx′ keys′ marks′ waits′ : List ℕ) (st′ : Search) → st .ended ≡ false
+    → ((m : Map) (fleet : State) (x : ℕ) → Genuine m fleet mem → x < m .vertices → GoesOn m fleet x k mem dx₀ keys₀ marks₀ waits₀ st₀ → GoesOn m fleet x k mem dx keys marks waits st)
+    → Goes mem k dx keys marks waits st dx′ keys′ marks′ waits′ st′
+    → (m : Map) (fleet : State) (x : ℕ) → Genuine m fleet mem → x < m .vertices → GoesOn m fleet x k mem dx₀ keys₀ marks₀ waits₀ st₀ → GoesOn m fleet x k mem dx′ keys′ marks′ waits′ st′
+on-and-on mem k dx₀ keys₀ marks₀ waits₀ st₀ dx keys marks waits st dx′ keys′ marks′ waits′ st′ on so-far goes m fleet x g hx start =
+    goes .1 m fleet x g hx (so-far m fleet x g hx start .0 on)
+
+nothing : (stampOf : ℕ → ℕ) (fars vans : List ℕ) (n : ℕ) → n ≡ 0 → entries stampOf fars vans n ≡ []
+unfolding entries
+nothing stampOf fars vans zero e = refl
+nothing stampOf fars vans (suc n) e = absurd (omega arith)
+
+zeros : (n i : ℕ) → word (replicate n 0) i ≡ 0
+zeros zero i = refl
+zeros (suc n) zero = refl
+zeros (suc n) (suc i) = zeros n i
+
+-- The start.
+pub record Begun (k : ℕ) (keys waits : List ℕ) (best : BestList) : Type 0 where
+  pub few : best .len ≤ k
+  pub total : farCount keys + 0 ≤ 512
+  pub long : length waits ≡ 512
+
+module _ (mem : List ℕ) (x k : ℕ) (dx keys marks waits : List ℕ) (fresh : Fresh dx keys marks waits) {counts : Counts} {leaf at : ℕ} {dx₁ dx′ marks′ keys′ : List ℕ} {empty best : BestList} {keyed : ℕ}
+    (isCounts : counts ≡ countsIn mem) (isLeaf′ : leaf ≡ word mem (vertexAt counts x + 0)) (isAt : at ≡ x) (isStart : dx₁ ≡ set dx at 0) (isEmpty : empty .len ≡ 0)
+    (taken : LeafTaken mem leaf dx₁ marks empty k dx′ marks′ best) (isKeyed : keyed ≡ leaf) (isKeys : keys′ ≡ lowered keys keyed 0) where
+  pub begun : Begun k keys′ waits best
+  begun =
+      record {
+        few = taken .few;
+        total = omega (arith, ap farCount isKeys, far-lowered keys keyed 0, far-most keys, fresh .keys-length);
+        long = fresh .waits-length;
+      }
+
+  pub begins : {out : ℕ} → 1 ≤ k → BoundOutside mem leaf dx′ out → (m : Map) (fleet : State) → Genuine m fleet mem → x < m .vertices
+      → GoesOn m fleet x k mem dx′ keys′ marks′ waits (record { best = best; part = leaf; out = out; waiting = 0; ended = false })
+  begins some bound m fleet g hx = (
+    λ e.
+        started g x hx k some dx keys marks waits (fresh .no-distance) (fresh .dx-length) (isStart ∙ ap (λ (i : ℕ). set dx i 0) isAt) (fresh .no-key) (fresh .keys-length) (fresh .no-mark)
+        (fresh .marks-length) leaf (isLeaf′ ∙ ap (λ (c : Counts). word mem (vertexAt c x + 0)) isCounts ∙ leaf-read g x hx) look (isKeys ∙ ap (λ (q : ℕ). lowered keys q 0) isKeyed) bound,
+    λ e. absurd (true≢false (sym e)),
+  )
+    where
+      none : listIn mem empty ≡ []
+      none = nothing (stampIn mem (countsIn mem)) (empty .fars) (empty .vans) (empty .len) isEmpty
+
+      look : FirstLook mem leaf dx₁ marks [] k dx′ marks′ (listIn mem best)
+      look =
+          let (relaxed, isMarks, found) = taken .first (λ e. omega (arith, e, fresh .no-mark leaf)) in
+          record {
+            relaxed = relaxed;
+            marks-are = isMarks;
+            found-are = found ∙ ap (λ (l : List Listed). offeredAll k l (leafOffers mem (countsIn mem) (partWord mem leaf 2) dx′ (rowsIn mem leaf) 0)) none;
+          }
+
+-- arrays as they are made
+pub fresh-arrays : Fresh (replicate 4096 FAR) (replicate 512 FAR) (replicate 512 0) (replicate 512 0)
+fresh-arrays =
+    record {
+      dx-length = length-replicate {A = ℕ} 4096 FAR;
+      no-distance = λ v h. getD-replicate 4096 v FAR 0 h;
+      keys-length = length-replicate {A = ℕ} 512 FAR;
+      no-key = λ q h. getD-replicate 512 q FAR 0 h;
+      marks-length = length-replicate {A = ℕ} 512 0;
+      no-mark = λ q. zeros 512 q;
+      waits-length = length-replicate {A = ℕ} 512 0;
+    }

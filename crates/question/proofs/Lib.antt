@@ -6,3 +6,4 @@ pub mod Leaves
 pub mod Turns
 pub mod Ends
 pub mod Calls
+pub mod Writing

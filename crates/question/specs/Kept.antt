@@ -3,12 +3,12 @@
 use mathlib.Core.Path.{_≡_}
 use mathlib.Core.Logic.{_⊎_, _≢_}
 use mathlib.Core.Bool.{Bool, true, false}
-use mathlib.Core.List.{List}
-use Prim.Native.Nat.{ℕ, _+_, _≤_, _<_}
-use lib.ListN.{length, set, take}
+use mathlib.Core.List.{List, _++_}
+use Prim.Native.Nat.{ℕ, _+_, _*_, _≤_, _<_}
+use lib.ListN.{length, set, take, drop}
 use lib.Dec.{eqb}
 use Rattle.words.specs.Limits.{FAR}
-use Rattle.words.specs.Lists.{word, keep}
+use Rattle.words.specs.Lists.{word, keep, gather}
 use Rattle.roads.specs.Map.{Map, partCount}
 use Rattle.roads.specs.Dist.{dist}
 use Rattle.parts.specs.Tree.{leafOf, holds}
@@ -16,7 +16,7 @@ use Rattle.parts.specs.Border.{boundary}
 use Rattle.maps.specs.Sound.{Sound}
 use Rattle.fleet.specs.State.{Slot, absent, present, State, slotOf, headOf, active}
 use Rattle.fleet.specs.Good.{Good}
-use Rattle.fleet.specs.Question.{Listed, comingFrom, sorted, nearest}
+use Rattle.fleet.specs.Question.{Listed, listedWords, comingFrom, sorted, nearest}
 use Rattle.image.specs.Image.{image}
 use Rattle.places.specs.Place.{countsIn}
 use Rattle.best_list.specs.declared.BestList.{BestList}
@@ -125,3 +125,7 @@ pub record Fresh (dx keys marks waits : List ℕ) : Type 0 where
   pub marks-length : length marks ≡ 512
   pub no-mark : (q : ℕ) → word marks q ≡ 0
   pub waits-length : length waits ≡ 512
+
+-- the words of a list, and then those of the answer that it leaves
+unfoldable pub written : List Listed → List ℕ → List ℕ
+written list answer = gather listedWords list ++ drop (3 * length list) answer

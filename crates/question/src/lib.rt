@@ -13,11 +13,12 @@ use part_bounds::spread;
 use part_bounds::way_out;
 use places::counts_in;
 use van_offers::offer_leaf;
+use van_offers::van_word;
 use van_offers::vertex_word;
 ghost use mathlib.Core.Path.{_≡_};
 ghost use mathlib.Core.Bool.{true, false};
 ghost use mathlib.Core.List.{List};
-ghost use Prim.Native.Nat.{ℕ, _+_, _-_, _≤_, _<_, _^_, min};
+ghost use Prim.Native.Nat.{ℕ, _+_, _-_, _≤_, _<_, _^_, _*_, min};
 ghost use lib.ListN.{length, set};
 ghost use Rattle.words.specs.Limits.{FAR};
 ghost use Rattle.words.specs.Lists.{word};
@@ -25,7 +26,7 @@ ghost use Rattle.roads.specs.Map.{Map};
 ghost use Rattle.fleet.specs.State.{State};
 ghost use Rattle.fleet.specs.Question.{nearest};
 ghost use Rattle.part_bounds.specs.Bounds.{farCount};
-ghost use Rattle.question.specs.Kept.{Genuine, listIn, LeafTaken, OpenedUp, BoundOutside, Searching, Shrunk, GoesOn, Fresh};
+ghost use Rattle.question.specs.Kept.{Genuine, listIn, LeafTaken, OpenedUp, BoundOutside, Searching, Shrunk, GoesOn, Fresh, written};
 
 // A search between two turns: the best so far, the part climbed to, the bound of what lies outside it, and how many parts wait.
 pub struct Search {
@@ -211,4 +212,76 @@ fn turn(
     }
     let at = next.at;
     take_waiting(mem, k, dx, keys, marks, waits, s, at)
+}
+
+// Turn by turn, until the search has ended.
+fn search_on(mem: &[u32], k: usize, dx: &mut [u32], keys: &mut [u32], marks: &mut [u32], waits: &mut [u32], s: Search) -> BestList
+    requires { ⌜ (s .best .len ≤ k) × (1 ≤ k) × (k ≤ 32) × (farCount (now keys) + s .waiting ≤ 512) × (length (now waits) ≡ 512) ⌝ }
+    ensures { λ r. ⌜ (r .len ≤ k) × ((m : Map) (fleet : State) (x : ℕ) → Genuine m fleet (now (mem .entry)) → x < m .vertices → GoesOn m fleet x k (now (mem .entry)) (now (dx .entry)) (now (keys .entry)) (now (marks .entry)) (now (waits .entry)) s → listIn (now (mem .entry)) r ≡ nearest m fleet x k) ⌝ }
+{
+    let mut st = s;
+    while !st.ended {
+        st = turn(mem, k, dx, keys, marks, waits, st);
+    }
+    st.best
+}
+
+// The search at x, with arrays that nothing was written to yet.
+fn search_at(mem: &[u32], x: u32, k: usize, dx: &mut [u32], keys: &mut [u32], marks: &mut [u32], waits: &mut [u32]) -> BestList
+    requires { ⌜ (1 ≤ k) × (k ≤ 32) × Fresh (now dx) (now keys) (now marks) (now waits) ⌝ }
+    ensures { λ r. ⌜ (r .len ≤ k) × ((m : Map) (fleet : State) → Genuine m fleet (now (mem .entry)) → x < m .vertices → listIn (now (mem .entry)) r ≡ nearest m fleet x k) ⌝ }
+{
+    let leaf = vertex_word(mem, counts_in(mem), x, 0);
+    put(dx, wide(x), 0);
+    let best = take_leaf(mem, leaf, dx, marks, BestList::empty(), k);
+    lower(keys, wide(leaf), 0);
+    let out = bound_outside(mem, leaf, dx);
+    let s = Search {
+        best: best,
+        part: leaf,
+        out: out,
+        waiting: 0,
+        ended: false,
+    };
+    search_on(mem, k, dx, keys, marks, waits, s)
+}
+
+// The first k of all free vans that can reach x, in order of distance and then van number.
+pub fn nearest_vans(mem: &[u32], x: u32, k: usize) -> BestList
+    requires { ⌜ (1 ≤ k) × (k ≤ 32) ⌝ }
+    ensures { λ r. ⌜ (r .len ≤ k) × ((m : Map) (fleet : State) → Genuine m fleet (now (mem .entry)) → x < m .vertices → listIn (now (mem .entry)) r ≡ nearest m fleet x k) ⌝ }
+{
+    let mut dx = [FAR; 4096];
+    let mut keys = [FAR; 512];
+    let mut marks = [0u32; 512];
+    let mut waits = [0u32; 512];
+    search_at(mem, x, k, &mut dx, &mut keys, &mut marks, &mut waits)
+}
+
+// The list is written over the first words of the answer: van, distance and stamp of each.
+fn write_list(mem: &[u32], best: BestList, answer: &mut [u32])
+    requires { ⌜ (best .len ≤ 32) × (3 * best .len ≤ length (now answer)) ⌝ }
+    ensures { λ _. ⌜ now (answer .exit) ≡ written (listIn (now (mem .entry)) best) (now (answer .entry)) ⌝ }
+{
+    let counts = counts_in(mem);
+    let len = best.len;
+    let fars = best.fars;
+    let vans = best.vans;
+    let mut i = 0;
+    while i < len {
+        let far = fars[i];
+        let van = vans[i];
+        let stamp = van_word(mem, counts, van, 3);
+        put3(answer, 3 * i, van, far, stamp);
+        i += 1;
+    }
+}
+
+fn put3(words: &mut [u32], at: usize, a: u32, b: u32, c: u32)
+    requires { ⌜ at < 2 ^ 32 ⌝ }
+    ensures { λ _. ⌜ now (words .exit) ≡ set (set (set (now (words .entry)) at a) (at + 1) b) (at + 2) c ⌝ }
+{
+    put(words, at, a);
+    put(words, at + 1, b);
+    put(words, at + 2, c);
 }
