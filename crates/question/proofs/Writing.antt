@@ -5,7 +5,7 @@ use mathlib.Core.List.{List, [], _∷_, _++_, append-assoc}
 use Prim.Native.Nat.{ℕ, zero, suc, _+_, _*_, _≤_, _<_}
 use native.Mathlib.Numerals.{add-one}
 use native.Mathlib.Omega.{arith}
-use lib.ListN.{length, getD, set, take, drop, length-take, length-drop}
+use lib.ListN.{length, getD, set, take, drop, length-set, length-take, length-drop}
 use lib.Seq.{take-suc, take-all, drop-drop}
 use Rattle.words.specs.Lists.{word, gather}
 use Rattle.words.proofs.Lists.{sum-same, gather-length}
@@ -96,3 +96,24 @@ unfolding written
 writing-all {list} {before} {i} {now} w all =
     let same : i ≡ length list = omega (arith, w .within) in
     w .so-far ∙ ap₂ (λ (xs : List Listed) (n : ℕ). gather listedWords xs ++ drop (3 * n) before) (take-all i list all) same
+
+-- Entries of two arrays.
+module _ (mem : List ℕ) (counts : Counts) (fars vans : List ℕ) (len : ℕ) (few : len ≤ 32) (fars-long : length fars ≡ 32) (vans-long : length vans ≡ 32) (before : List ℕ) where
+  list-length : length (entries (stampIn mem counts) fars vans len) ≡ len
+  list-length = length-entries (stampIn mem counts) fars vans len (omega arith) (omega arith)
+
+  pub write-none : 3 * len ≤ length before → Writing (entries (stampIn mem counts) fars vans len) before 0 before
+  write-none fits = writing-none (entries (stampIn mem counts) fars vans len) before (omega (arith, list-length))
+
+  pub write-more : (i : ℕ) {now now′ : List ℕ} {stamp : ℕ} → Writing (entries (stampIn mem counts) fars vans len) before i now → i < len → stamp ≡ word mem (vanAt counts (getD vans i 0) + 3)
+      → now′ ≡ set (set (set now (3 * i) (getD vans i 0)) (3 * i + 1) (getD fars i 0)) (3 * i + 2) stamp → Writing (entries (stampIn mem counts) fars vans len) before (i + 1) now′
+  write-more i {now} {now′} {stamp} w h isStamp isNow =
+      writing-more w (omega (arith, list-length)) {e = listed (stampIn mem counts) (getD fars i 0) (getD vans i 0)} refl
+      (entries-at (stampIn mem counts) fars vans len i (listed (λ v. 0) 0 0) h (omega arith) (omega arith))
+      (isNow ∙ ap (λ (s : ℕ). set (set (set now (3 * i) (getD vans i 0)) (3 * i + 1) (getD fars i 0)) (3 * i + 2) s) isStamp)
+      (ap length isNow ∙ simp length-set)
+
+  pub write-all : (i : ℕ) {now : List ℕ} → counts ≡ countsIn mem → Writing (entries (stampIn mem counts) fars vans len) before i now → len ≤ i
+      → now ≡ written (entries (stampIn mem (countsIn mem)) fars vans len) before
+  write-all i isCounts w all =
+      writing-all w (omega (arith, list-length)) ∙ ap (λ (c : Counts). written (entries (stampIn mem c) fars vans len) before) isCounts

@@ -215,7 +215,15 @@ fn turn(
 }
 
 // Turn by turn, until the search has ended.
-fn search_on(mem: &[u32], k: usize, dx: &mut [u32], keys: &mut [u32], marks: &mut [u32], waits: &mut [u32], s: Search) -> BestList
+fn search_on(
+    mem: &[u32],
+    k: usize,
+    dx: &mut [u32],
+    keys: &mut [u32],
+    marks: &mut [u32],
+    waits: &mut [u32],
+    s: Search,
+) -> BestList
     requires { ⌜ (s .best .len ≤ k) × (1 ≤ k) × (k ≤ 32) × (farCount (now keys) + s .waiting ≤ 512) × (length (now waits) ≡ 512) ⌝ }
     ensures { λ r. ⌜ (r .len ≤ k) × ((m : Map) (fleet : State) (x : ℕ) → Genuine m fleet (now (mem .entry)) → x < m .vertices → GoesOn m fleet x k (now (mem .entry)) (now (dx .entry)) (now (keys .entry)) (now (marks .entry)) (now (waits .entry)) s → listIn (now (mem .entry)) r ≡ nearest m fleet x k) ⌝ }
 {
@@ -227,7 +235,15 @@ fn search_on(mem: &[u32], k: usize, dx: &mut [u32], keys: &mut [u32], marks: &mu
 }
 
 // The search at x, with arrays that nothing was written to yet.
-fn search_at(mem: &[u32], x: u32, k: usize, dx: &mut [u32], keys: &mut [u32], marks: &mut [u32], waits: &mut [u32]) -> BestList
+fn search_at(
+    mem: &[u32],
+    x: u32,
+    k: usize,
+    dx: &mut [u32],
+    keys: &mut [u32],
+    marks: &mut [u32],
+    waits: &mut [u32],
+) -> BestList
     requires { ⌜ (1 ≤ k) × (k ≤ 32) × Fresh (now dx) (now keys) (now marks) (now waits) ⌝ }
     ensures { λ r. ⌜ (r .len ≤ k) × ((m : Map) (fleet : State) → Genuine m fleet (now (mem .entry)) → x < m .vertices → listIn (now (mem .entry)) r ≡ nearest m fleet x k) ⌝ }
 {

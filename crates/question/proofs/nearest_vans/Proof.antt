@@ -5,7 +5,6 @@ use borrow.Author.Needs.{needs}
 use Rattle.question.proofs.nearest_vans.Statement.{statement}
 use Rattle.question.proofs.nearest_vans.Tie as tie
 
-
 slice-aggregate-search-at : tie.Need-slice-aggregate-search-at
 slice-aggregate-search-at c = search needs
 

@@ -15,7 +15,6 @@ use borrow.Author.Needs.{needs}
 use Rattle.question.proofs.search_on.Statement.{statement}
 use Rattle.question.proofs.search_on.Tie as tie
 
-
 abbrev Inv-loop : tie.InvT-loop
 Inv-loop mem k dx₀ keys₀ marks₀ waits₀ st₀ dx keys marks waits st = (st .best .len ≤ k) × (farCount keys + st .waiting ≤ 512) × (length waits ≡ 512) × (length dx ≡ length dx₀) × (length keys ≡ length keys₀) × (length marks ≡ length marks₀) × ((m : Map) (fleet : State) (x : ℕ) → Genuine m fleet mem → x < m .vertices → GoesOn m fleet x k mem dx₀ keys₀ marks₀ waits₀ st₀ → GoesOn m fleet x k mem dx keys marks waits st)
 
@@ -32,16 +31,15 @@ loop-less : tie.Need-loop-less Inv-loop μ-loop
 loop-less c = less-left (c .before .before .before .before .before .before .before .before .before .before .before .before .before .before .before .loop .st .ended) (c .before .before .before .before .before .before .before .before .turn .result .ended) _ _ (not-true _ (c .before .before .before .before .before .before .before .before .before .before .before .before .before .if1 .taken)) (c .before .before .before .before .before .before .before .before .turn .ensures .0 .shrinks)
 
 loop-again : tie.Need-loop-again Inv-loop μ-loop
-loop-again c =
-    (
-      c .before .before .before .before .before .before .before .before .turn .ensures .0 .few,
-      c .before .before .before .before .before .before .before .before .turn .ensures .0 .total,
-      c .before .before .before .before .before .before .before .before .turn .ensures .0 .waits-length,
-      search needs,
-      search needs,
-      search needs,
-      on-and-on _ _ _ _ _ _ _ _ _ _ _ (c .before .before .before .before .before .before .before .before .before .before .before .before .before .before .before .loop .st) _ _ _ _ _ (not-true _ (c .before .before .before .before .before .before .before .before .before .before .before .before .before .if1 .taken)) (c .before .before .before .before .before .before .before .before .before .before .before .before .before .before .before .loop .inv .6) (c .before .before .before .before .before .before .before .before .turn .ensures),
-    )
+loop-again c = (
+  c .before .before .before .before .before .before .before .before .turn .ensures .0 .few,
+  c .before .before .before .before .before .before .before .before .turn .ensures .0 .total,
+  c .before .before .before .before .before .before .before .before .turn .ensures .0 .waits-length,
+  search needs,
+  search needs,
+  search needs,
+  on-and-on _ _ _ _ _ _ _ _ _ _ _ (c .before .before .before .before .before .before .before .before .before .before .before .before .before .before .before .loop .st) _ _ _ _ _ (not-true _ (c .before .before .before .before .before .before .before .before .before .before .before .before .before .if1 .taken)) (c .before .before .before .before .before .before .before .before .before .before .before .before .before .before .before .loop .inv .6) (c .before .before .before .before .before .before .before .before .turn .ensures),
+)
 
 same-length : tie.Need-same-length Inv-loop μ-loop
 same-length c = c .before .before .before .loop .inv .3
