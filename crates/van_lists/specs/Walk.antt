@@ -35,14 +35,14 @@ written mem counts van words =
     set (set (set (set mem (vanAt counts van) (words .state)) (vanAt counts van + 1) (words .road)) (vanAt counts van + 2) (words .offset))
     (vanAt counts van + 3) (words .stamp)
 
--- .. and its link
-abbrev pub linked : List ℕ → Counts → ℕ → VanWords → ℕ → List ℕ
-linked mem counts van words link = set (written mem counts van words) (vanAt counts van + 4) link
+-- one link, and then the van's own
+abbrev pub relinked : List ℕ → Counts → ℕ → ℕ → ℕ → ℕ → List ℕ
+relinked mem counts van before next link = set (set mem before next) (vanAt counts van + 4) link
 
 -- the link before the van goes on to the one after it
 unfoldable pub takenOut : List ℕ → Counts → ℕ → ℕ → VanWords → List ℕ
-takenOut mem counts van vertex words = linked (set mem (behind mem counts vertex van) (word mem (vanAt counts van + 4))) counts van words 0
+takenOut mem counts van vertex words = written (relinked mem counts van (behind mem counts vertex van) (word mem (vanAt counts van + 4)) 0) counts van words
 
 -- the link before the van goes on to the van, and the van's link to where that one went
 unfoldable pub putIn : List ℕ → Counts → ℕ → ℕ → VanWords → List ℕ
-putIn mem counts van vertex words = linked (set mem (behind mem counts vertex van) (van + 1)) counts van words (word mem (behind mem counts vertex van))
+putIn mem counts van vertex words = written (relinked mem counts van (behind mem counts vertex van) (van + 1) (word mem (behind mem counts vertex van))) counts van words

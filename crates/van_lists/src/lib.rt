@@ -8,6 +8,7 @@ use places::van_at;
 use places::vertex_at;
 ghost use mathlib.Core.Path.{_≡_};
 ghost use Prim.Native.Nat.{_<_};
+ghost use Rattle.van_lists.specs.Slot.{stamped};
 ghost use Rattle.van_lists.specs.Walk.{vanIn, behind, written, takenOut, putIn};
 
 // The first four words of a van's record.
@@ -28,6 +29,21 @@ impl VanWords {
         offset: 0,
         stamp: 0,
     };
+
+    // The same under another stamp; an absent van has none.
+    pub fn stamped(self, stamp: u32) -> VanWords
+        ensures { λ r. ⌜ r ≡ stamped self stamp ⌝ }
+    {
+        if self.state == 0 {
+            return VanWords::ABSENT;
+        }
+        VanWords {
+            state: self.state,
+            road: self.road,
+            offset: self.offset,
+            stamp,
+        }
+    }
 }
 
 pub fn van_in(mem: &[u32], counts: Counts, van: u32) -> VanWords
@@ -81,8 +97,8 @@ pub fn take_out(mem: &mut [u32], counts: Counts, van: u32, vertex: u32, words: V
     let next = word(mem, link);
     let before = behind(mem, counts, vertex, van);
     put(mem, before, next);
-    write_van(mem, counts, van, words);
     put(mem, link, 0);
+    write_van(mem, counts, van, words);
 }
 
 // A van that is not free enters the list of a vertex, and stands as `words` say.
@@ -94,6 +110,6 @@ pub fn put_in(mem: &mut [u32], counts: Counts, van: u32, vertex: u32, words: Van
     let before = behind(mem, counts, vertex, van);
     let next = word(mem, before);
     put(mem, before, van + 1);
-    write_van(mem, counts, van, words);
     put(mem, link, next);
+    write_van(mem, counts, van, words);
 }

@@ -23,11 +23,11 @@ add-put c = search needs
 put-requires : tie.Need-put-requires
 put-requires c κs = search needs
 
-write-van-requires : tie.Need-write-van-requires
-write-van-requires c κs = search needs
-
 put-requires-2 : tie.Need-put-requires-2
 put-requires-2 c κs = search needs
+
+write-van-requires : tie.Need-write-van-requires
+write-van-requires c κs = search needs
 
 same-length : tie.Need-same-length
 same-length c = search needs
@@ -39,9 +39,9 @@ returns c =
     let behind = c .before .before .before .before .before .before .before .before .before .before .before .before .before .before .behind in
     let word = c .before .before .before .before .before .before .before .before .before .before .before .before .word in
     let put = c .before .before .before .before .before .before .before .before .before .before .put in
-    let write-van = c .before .before .before .before .before .before .write-van in
-    let put2 = c .before .before .put2 in
-    put-in (a .mem .now) (a .counts) (a .van) (a .vertex) (a .words) _ _ _ _ _ _ (van-at .ensures) (behind .ensures) (word .ensures) (put .ensures) (write-van .ensures) (put2 .ensures)
+    let put2 = c .before .before .before .before .before .before .put2 in
+    let write-van = c .before .before .write-van in
+    put-in (a .mem .now) (a .counts) (a .van) (a .vertex) (a .words) _ _ _ _ _ _ (van-at .ensures) (behind .ensures) (word .ensures) (put .ensures) (put2 .ensures) (write-van .ensures)
 
 pub put-in-spec : {M : Type 1} → statement M
 put-in-spec =
@@ -53,7 +53,7 @@ put-in-spec =
     word-requires
     add-put
     put-requires
-    write-van-requires
     put-requires-2
+    write-van-requires
     same-length
     returns)

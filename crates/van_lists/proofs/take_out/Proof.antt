@@ -20,11 +20,11 @@ behind-requires c κs = search needs
 put-requires : tie.Need-put-requires
 put-requires c κs = search needs
 
-write-van-requires : tie.Need-write-van-requires
-write-van-requires c κs = search needs
-
 put-requires-2 : tie.Need-put-requires-2
 put-requires-2 c κs = search needs
+
+write-van-requires : tie.Need-write-van-requires
+write-van-requires c κs = search needs
 
 same-length : tie.Need-same-length
 same-length c = search needs
@@ -33,12 +33,12 @@ returns : tie.Need-returns
 returns c =
     let a = c .before .before .before .before .before .before .before .before .before .before .before .before .before .before .before .before .before .before .args in
     let van-at = c .before .before .before .before .before .before .before .before .before .before .before .before .before .before .before .before .van-at in
-    let behind = c .before .before .before .before .before .before .before .before .before .before .before .before .behind in
     let word = c .before .before .before .before .before .before .before .before .before .before .before .before .before .before .word in
+    let behind = c .before .before .before .before .before .before .before .before .before .before .before .before .behind in
     let put = c .before .before .before .before .before .before .before .before .before .before .put in
-    let write-van = c .before .before .before .before .before .before .write-van in
-    let put2 = c .before .before .put2 in
-    taken-out (a .mem .now) (a .counts) (a .van) (a .vertex) (a .words) _ _ _ _ _ _ (van-at .ensures) (word .ensures) (behind .ensures) (put .ensures) (write-van .ensures) (put2 .ensures)
+    let put2 = c .before .before .before .before .before .before .put2 in
+    let write-van = c .before .before .write-van in
+    taken-out (a .mem .now) (a .counts) (a .van) (a .vertex) (a .words) _ _ _ _ _ _ (van-at .ensures) (word .ensures) (behind .ensures) (put .ensures) (put2 .ensures) (write-van .ensures)
 
 pub take-out-spec : {M : Type 1} → statement M
 take-out-spec =
@@ -49,7 +49,7 @@ take-out-spec =
     word-requires
     behind-requires
     put-requires
-    write-van-requires
     put-requires-2
+    write-van-requires
     same-length
     returns)

@@ -1,0 +1,8 @@
+-- Laws that the crates above cite.
+pub mod Offered
+pub mod OnePart
+pub mod Apart
+pub mod Genuine
+pub mod Levels
+pub mod Up
+pub mod Whole

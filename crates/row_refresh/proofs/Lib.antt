@@ -1,0 +1,2 @@
+-- Laws that the proofs and the crates above cite.
+pub mod Chain
