@@ -275,7 +275,7 @@ pub fn nearest_vans(mem: &[u32], x: u32, k: usize) -> BestList
 }
 
 // The list is written over the first words of the answer: van, distance and stamp of each.
-fn write_list(mem: &[u32], best: BestList, answer: &mut [u32])
+pub fn write_list(mem: &[u32], best: BestList, answer: &mut [u32])
     requires { ⌜ (best .len ≤ 32) × (3 * best .len ≤ length (now answer)) ⌝ }
     ensures { λ _. ⌜ now (answer .exit) ≡ written (listIn (now (mem .entry)) best) (now (answer .entry)) ⌝ }
 {
