@@ -14,7 +14,7 @@ use Rattle.cells.proofs.Part.{part-length, part-at}
 use Rattle.roads.specs.Map.{Map, partCount, roadCount, roadAt}
 use Rattle.parts.specs.Size.{need}
 use Rattle.counts.specs.declared.Counts.{Counts}
-use Rattle.places.specs.Place.{countsIn, vertexAt, vanAt}
+use Rattle.places.specs.Place.{countsIn, vertexAt, roadAt as roadPlace, vanAt}
 use Rattle.fleet.specs.State.{Slot, absent, present, State, slotOf}
 use Rattle.image.specs.Places.{verticesAt, roadsAt, vansAt, tablesAt}
 use Rattle.image.specs.Image.{headPart, vertexRecord, image}
@@ -41,7 +41,7 @@ module _ (m : Map) where
   pub vertex-place : (v w : ℕ) → vertexAt (countsOf m) v + w ≡ verticesAt m + 8 * v + w
   vertex-place v w = omega (arith, vertices-start m)
 
-  pub road-place : (i w : ℕ) → Rattle.places.specs.Place.roadAt (countsOf m) i + w ≡ roadsAt m + 4 * i + w
+  pub road-place : (i w : ℕ) → roadPlace (countsOf m) i + w ≡ roadsAt m + 4 * i + w
   road-place i w = omega (arith, roads-start m)
 
   pub van-place : (x w : ℕ) → vanAt (countsOf m) x + w ≡ vansAt m + 8 * x + w

@@ -31,12 +31,6 @@ ghost use Rattle.calls.specs.Outcome.{Changed};
 ghost use Rattle.changes.specs.Made.{departed, arrived, made, counted, settled};
 ghost use Rattle.changes.specs.Done.{Done};
 
-pub const VANS: u32 = 1024;
-
-pub const MOST_DESK: u32 = 255;
-
-pub const LAST_COUNT: u32 = 4294967295;
-
 // A free van for `vertex` stands as `words` say, and heads nowhere. Where it was the only one, the vertex becomes inactive.
 fn depart(mem: &mut [u32], counts: Counts, van: u32, vertex: u32, words: VanWords)
     ensures { λ _. ⌜ now (mem .exit) ≡ departed (now (mem .entry)) counts van vertex words ⌝ }
@@ -65,10 +59,10 @@ fn make(mem: &mut [u32], counts: Counts, van: u32, old: VanWords, new: VanWords)
     requires { ⌜ van < 1024 ⌝ }
     ensures { λ _. ⌜ now (mem .exit) ≡ made (now (mem .entry)) counts van old new ⌝ }
 {
-    let from = road_end(mem, counts, old.road);
-    let to = road_end(mem, counts, new.road);
     if old.state == VanWords::FREE {
+        let from = road_end(mem, counts, old.road);
         if new.state == VanWords::FREE {
+            let to = road_end(mem, counts, new.road);
             if from == to {
                 write_van(mem, counts, van, new);
                 return;
@@ -81,6 +75,7 @@ fn make(mem: &mut [u32], counts: Counts, van: u32, old: VanWords, new: VanWords)
         return;
     }
     if new.state == VanWords::FREE {
+        let to = road_end(mem, counts, new.road);
         arrive(mem, counts, van, to, new);
         return;
     }
@@ -93,7 +88,7 @@ fn settle(mem: &mut [u32], counts: Counts, van: u32, old: VanWords, new: VanWord
     ensures { λ r. ⌜ (r ≡ counted (word (now (mem .entry)) 5)) × (now (mem .exit) ≡ settled (now (mem .entry)) counts van old new) ⌝ }
 {
     let count = word(mem, 5);
-    if count == LAST_COUNT {
+    if count == VanWords::LAST_STAMP {
         return Reply::CountUsedUp;
     }
     put(mem, 5, count + 1);
@@ -120,10 +115,10 @@ pub fn change_in(mem: &mut [u32], change: Change) -> Reply
 fn holding_in_range(van: u32, desk: u32) -> bool
     ensures { λ r. ⌜ r ≡ (vanInRange van && deskInRange desk) ⌝ }
 {
-    if van >= VANS {
+    if van >= VanWords::VANS {
         return false;
     }
-    is_within(1, MOST_DESK, desk)
+    is_within(1, VanWords::MOST_DESK, desk)
 }
 
 // Each number of the change is in its range.
@@ -136,14 +131,14 @@ fn in_range(change: Change) -> bool
             from: _,
             to: _,
             offset: _,
-        } => van < VANS,
+        } => van < VanWords::VANS,
         Change::Move {
             van,
             from: _,
             to: _,
             offset: _,
-        } => van < VANS,
-        Change::Remove { van } => van < VANS,
+        } => van < VanWords::VANS,
+        Change::Remove { van } => van < VanWords::VANS,
         Change::Claim {
             van,
             stamp: _,

@@ -5,15 +5,15 @@ use mathlib.Core.List.{List}
 use Prim.Native.Nat.{ℕ, _+_, _≤_, _<_}
 use lib.Dec.{ltb}
 use Rattle.words.specs.Lists.{word}
-use Rattle.roads.specs.Map.{Map, roadCount, roadBetween}
+use Rattle.roads.specs.Map.{Map, roadCount, roadAt, roadBetween}
 use Rattle.maps.specs.Sound.{Sound}
 use Rattle.counts.specs.declared.Counts.{Counts}
-use Rattle.places.specs.Place.{vertexAt, roadAt}
+use Rattle.places.specs.Place.{vertexAt, roadAt as roadPlace}
 use Rattle.image.specs.Image.{firstRoadFrom}
 
 -- the end of a road, in any words
 abbrev pub endIn : List ℕ → Counts → ℕ → ℕ
-endIn mem counts road = word mem (roadAt counts road + 1)
+endIn mem counts road = word mem (roadPlace counts road + 1)
 
 -- the first road of a vertex, in any words
 abbrev pub firstIn : List ℕ → Counts → ℕ → ℕ
@@ -38,7 +38,7 @@ pub record RoadsStand (m : Map) (counts : Counts) (mem : List ℕ) : Type 0 wher
   pub vertices : counts .vertices ≡ m .vertices
   pub roads : counts .roads ≡ roadCount m
   pub first : (v : ℕ) → v < m .vertices → word mem (vertexAt counts v + 2) ≡ firstRoadFrom m v
-  pub end : (i : ℕ) → i < roadCount m → endIn mem counts i ≡ Rattle.roads.specs.Map.roadAt m i .to
+  pub end : (i : ℕ) → i < roadCount m → endIn mem counts i ≡ roadAt m i .to
 
 -- in a memory that has the roads of a sound map, the road that the definitions find
 abbrev pub Between : List ℕ → Counts → (u v r : ℕ) → Type 0

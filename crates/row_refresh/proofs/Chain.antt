@@ -8,8 +8,9 @@ use native.Mathlib.Nat.{mul-suc, mul-le-mul-left}
 use native.Mathlib.Omega.{arith}
 use lib.ListN.{length, getD, set, replicate}
 use lib.Dec.{eqb, ltb, leb}
-use borrow.Author.Tests.{lt-ltb, le-ltb, eq-eqb, ne-eqb, le-leb, lt-leb}
+use borrow.Author.Tests.{ltb-true, lt-ltb, le-ltb, eq-eqb, ne-eqb, le-leb, lt-leb}
 use Rattle.words.specs.Limits.{FAR}
+use Rattle.words.proofs.Tests.{both-true}
 use Rattle.rows.specs.declared.Row.{Row}
 use Rattle.rows.specs.Row.{emptyRow, comesBefore}
 use Rattle.row_refresh.specs.Model.{rowIn, shown, sourceIn, improves, offeredTo, offered, spread, isNews, met, arrived, anyNews, anyShows, noted, notedCount, listed, listedCount, sources, sourceCount, gathered, renewed, departed, partAt, rowsHere, fits, changed, touches, refreshed, touched, refreshedUp, vertexAt, ownRow, switched}
@@ -47,6 +48,10 @@ module _ (v x d : ℕ) where
     pub offered-to : (row : Row) → improves row v x d ≡ true → seen ≡ offeredTo row v x d
     unfolding offeredTo
     offered-to row yes-test = rw yes-test seen-is
+
+  pub improves-near : (row : Row) → improves row v x d ≡ true → x + d < FAR
+  unfolding improves
+  improves-near row yes-test = ltb-true (x + d) FAR (both-true (ltb (x + d) FAR) _ yes-test .0)
 
   pub improves-far : (row : Row) → x ≤ FAR → FAR - x ≤ d → improves row v x d ≡ false
   unfolding improves

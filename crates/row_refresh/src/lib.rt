@@ -9,7 +9,7 @@ ghost use mathlib.Core.Bool.{true, false, _||_};
 ghost use Prim.Native.Nat.{_+_, _*_, _≤_, _<_};
 ghost use lib.ListN.{length};
 ghost use Rattle.rows.specs.Row.{emptyRow};
-ghost use Rattle.row_refresh.specs.Model.{rowIn, shown, sourceIn, offeredTo, offered, spread, isNews, met, arrived, anyNews, anyShows, noted, notedCount, listed, listedCount, sources, sourceCount, gathered, renewed, departed, rowsHere, fits, changed, touches, refreshed, touched, refreshedUp, ownRow, vertexAt, switched};
+ghost use Rattle.row_refresh.specs.Model.{rowIn, shown, sourceIn, improves, offered, spread, isNews, met, arrived, anyNews, anyShows, noted, notedCount, listed, listedCount, sources, sourceCount, gathered, renewed, departed, rowsHere, fits, changed, touches, refreshed, touched, refreshedUp, ownRow, vertexAt, switched};
 
 const MOST_ROWS: usize = 128;
 
@@ -160,17 +160,15 @@ fn list_sources(mem: &[u32], rows: usize, size: usize, list: &mut [u32]) -> usiz
     n
 }
 
-// The nearer of a row and of vertex v at distance x, seen d further on.
-fn nearer_of(best: Row, v: u32, x: u32, d: u32) -> Row
-    ensures { λ r. ⌜ r ≡ offeredTo best v x d ⌝ }
+// Vertex v at distance x, seen d further on, comes before a row.
+fn is_nearer(row: Row, v: u32, x: u32, d: u32) -> bool
+    ensures { λ r. ⌜ r ≡ improves row v x d ⌝ }
 {
     if d < Row::FAR - x {
         let seen = Row::showing(v, x + d);
-        if seen.comes_before(best) {
-            return seen;
-        }
+        return seen.comes_before(row);
     }
-    best
+    false
 }
 
 // The nearest of `count` listed sources, with the distances of a column of the table.
@@ -182,8 +180,12 @@ fn gather(mem: &[u32], list: &[u32], count: usize, size: usize, column: usize) -
     let mut from = 0;
     let mut left = count;
     while 0 < left {
+        let v = list[from];
+        let x = list[from + 1];
         let d = word(mem, column + wide(word(list, from + 2)) * size);
-        best = nearer_of(best, list[from], list[from + 1], d);
+        if is_nearer(best, v, x, d) {
+            best = Row::showing(v, x + d);
+        }
         from += 3;
         left -= 1;
     }

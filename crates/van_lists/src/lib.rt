@@ -21,6 +21,14 @@ pub struct VanWords {
 }
 
 impl VanWords {
+    // Van numbers are below this.
+    pub const VANS: u32 = 1024;
+
+    pub const MOST_DESK: u32 = 255;
+
+    // The change count, and so the last stamp, at which no change is accepted any more.
+    pub const LAST_STAMP: u32 = 4294967295;
+
     pub const FREE: u32 = 1;
 
     pub const ABSENT: VanWords = VanWords {

@@ -1,11 +1,12 @@
 -- `row_refresh::gather` is `gathered`: what is left to gather from here stays the whole.
 use mathlib.Core.Path.{_≡_, refl, sym, _∙_, ap}
+use mathlib.Core.Logic.{⊎-elim}
 use Prim.Native.Nat.{_+_, _*_, _≤_}
-use lib.ListN.{length}
+use lib.ListN.{length, getD}
 use Rattle.rows.specs.declared.Row.{Row}
 use Rattle.rows.specs.Row.{emptyRow}
-use Rattle.row_refresh.specs.Model.{gathered}
-use Rattle.row_refresh.proofs.Chain.{times-most, gathered-turn, gathered-done}
+use Rattle.row_refresh.specs.Model.{gathered, offeredTo}
+use Rattle.row_refresh.proofs.Chain.{times-most, improves-near, offered-to, offered-past, gathered-turn, gathered-done}
 use borrow.Author.Needs.{needs}
 use native.Mathlib.Omega.{arith}
 use Rattle.row_refresh.proofs.gather.Statement.{statement}
@@ -25,6 +26,21 @@ loop-holds c =
     let args′ = c .before .before .before .args in
     (omega arith, ap (λ (row : Row). gathered (args′ .count) (args′ .mem .now) (args′ .list .now) (args′ .size) (args′ .column) 0 row) (c .empty .ensures))
 
+mul-v : tie.Need-mul-v Inv-loop μ-loop
+mul-v c = search needs
+
+shared-slice-read-v : tie.Need-shared-slice-read-v Inv-loop μ-loop
+shared-slice-read-v c = omega arith
+
+add-x : tie.Need-add-x Inv-loop μ-loop
+add-x c = omega arith
+
+mul-x : tie.Need-mul-x Inv-loop μ-loop
+mul-x c = search needs
+
+shared-slice-read-x : tie.Need-shared-slice-read-x Inv-loop μ-loop
+shared-slice-read-x c = omega arith
+
 add-word : tie.Need-add-word Inv-loop μ-loop
 add-word c = omega arith
 
@@ -36,34 +52,29 @@ wide-requires c κs = search needs
 
 mul-word : tie.Need-mul-word Inv-loop μ-loop
 mul-word c =
-    let args′ = c .before .before .before .before .before .before .before .args in
+    let args′ = c .before .before .before .before .before .before .before .before .before .args in
     record { fits = omega (arith, times-most (c .wide .result) (args′ .size) (omega arith)) }
 
 add-word-2 : tie.Need-add-word-2 Inv-loop μ-loop
 add-word-2 c =
-    let args′ = c .before .before .before .before .before .before .before .args in
+    let args′ = c .before .before .before .before .before .before .before .before .before .args in
     record { fits = omega (arith, times-most (c .wide .result) (args′ .size) (omega arith)) }
 
 word-requires-2 : tie.Need-word-requires-2 Inv-loop μ-loop
 word-requires-2 c κs = search needs
 
-mul-nearer-of : tie.Need-mul-nearer-of Inv-loop μ-loop
-mul-nearer-of c = search needs
+is-nearer-requires : tie.Need-is-nearer-requires Inv-loop μ-loop
+is-nearer-requires c κs = search needs
 
-shared-slice-read-nearer-of : tie.Need-shared-slice-read-nearer-of Inv-loop μ-loop
-shared-slice-read-nearer-of c = omega arith
+add-showing : tie.Need-add-showing Inv-loop μ-loop
+add-showing c =
+    let args′ = c .before .before .before .before .before .before .before .before .before .before .before .before .args in
+    let loop′ = c .before .before .before .before .before .before .before .before .loop in
+    let word2′ = c .before .before .word2 in
+    record { fits = omega (arith, improves-near (getD (args′ .list .now) (loop′ .from) 0) (getD (args′ .list .now) (loop′ .from + 1) 0) (word2′ .result) (loop′ .best) (sym (c .before .is-nearer .ensures) ∙ c .if1 .taken)) }
 
-add-nearer-of : tie.Need-add-nearer-of Inv-loop μ-loop
-add-nearer-of c = omega arith
-
-mul-nearer-of-2 : tie.Need-mul-nearer-of-2 Inv-loop μ-loop
-mul-nearer-of-2 c = search needs
-
-shared-slice-read-nearer-of-2 : tie.Need-shared-slice-read-nearer-of-2 Inv-loop μ-loop
-shared-slice-read-nearer-of-2 c = omega arith
-
-nearer-of-requires : tie.Need-nearer-of-requires Inv-loop μ-loop
-nearer-of-requires c κs = search needs
+showing-requires : tie.Need-showing-requires Inv-loop μ-loop
+showing-requires c κs = search needs
 
 add-from : tie.Need-add-from Inv-loop μ-loop
 add-from c = omega arith
@@ -76,12 +87,12 @@ loop-less c = omega arith
 
 loop-again : tie.Need-loop-again Inv-loop μ-loop
 loop-again c =
-    let loop′ = c .before .before .before .before .before .before .before .loop in
-    let args′ = c .before .before .before .before .before .before .before .before .before .before .before .args in
-    let word′ = c .before .before .before .before .before .word in
-    let wide′ = c .before .before .before .before .wide in
-    let word2′ = c .before .before .before .word2 in
-    (omega arith, gathered-turn _ (loop′ .left) (args′ .mem .now) (args′ .list .now) (args′ .size) (args′ .column) (loop′ .from) _ _ _ (loop′ .best) _ (omega arith) (word′ .ensures) (wide′ .ensures) (word2′ .ensures) (c .nearer-of .ensures) ∙ loop′ .inv .1)
+    let loop′ = c .before .before .before .before .before .before .before .before .loop in
+    let args′ = c .before .before .before .before .before .before .before .before .before .before .before .before .args in
+    let word2′ = c .before .before .word2 in
+    let word′ = c .before .before .before .before .word in
+    let wide′ = c .before .before .before .wide in
+    let next : (c .if1 .best ≡ offeredTo (loop′ .best) (getD (args′ .list .now) (loop′ .from) 0) (getD (args′ .list .now) (loop′ .from + 1) 0) (word2′ .result)) = ⊎-elim (λ w. w .2 ∙ offered-to (getD (args′ .list .now) (loop′ .from) 0) (getD (args′ .list .now) (loop′ .from + 1) 0) (word2′ .result) (w .1 .result) (w .1 .ensures) (loop′ .best) (sym (c .before .is-nearer .ensures) ∙ w .0 .taken)) (λ w. w .1 ∙ offered-past (getD (args′ .list .now) (loop′ .from) 0) (getD (args′ .list .now) (loop′ .from + 1) 0) (word2′ .result) (loop′ .best) (sym (c .before .is-nearer .ensures) ∙ w .0 .left)) (c .if1 .came) in (omega arith, gathered-turn _ (loop′ .left) (args′ .mem .now) (args′ .list .now) (args′ .size) (args′ .column) (loop′ .from) _ _ _ (loop′ .best) _ (omega arith) (word′ .ensures) (wide′ .ensures) (word2′ .ensures) next ∙ loop′ .inv .1)
 
 returns : tie.Need-returns Inv-loop μ-loop
 returns c =
@@ -96,18 +107,20 @@ gather-spec =
     μ-loop
     empty-requires
     loop-holds
+    mul-v
+    shared-slice-read-v
+    add-x
+    mul-x
+    shared-slice-read-x
     add-word
     word-requires
     wide-requires
     mul-word
     add-word-2
     word-requires-2
-    mul-nearer-of
-    shared-slice-read-nearer-of
-    add-nearer-of
-    mul-nearer-of-2
-    shared-slice-read-nearer-of-2
-    nearer-of-requires
+    is-nearer-requires
+    add-showing
+    showing-requires
     add-from
     sub-left
     loop-less

@@ -1,0 +1,156 @@
+-- A question on the words used of a memory, as a question on the whole of it.
+-- Assumes nothing.
+use mathlib.Core.Path.{_≡_, refl, sym, ap, subst, _∙_}
+use mathlib.Core.Logic.{_≢_}
+use mathlib.Core.Bool.{Bool, true, false, _&&_, true≢false}
+use mathlib.Core.List.{List, _++_}
+use Prim.Native.Nat.{ℕ, _+_, _*_, _≤_, _<_}
+use native.Mathlib.Omega.{arith}
+use lib.ListN.{length, take, drop, length-append, length-drop}
+use lib.Seq.{getD-take}
+use lib.Dec.{leb, ltb, eqb}
+use borrow.Author.Tests.{leb-true, ltb-true, lt-ltb, le-ltb, le-leb, lt-leb}
+use Rattle.words.specs.Limits.{headWords, headMark, mostAsked}
+use Rattle.words.specs.Lists.{word, gather}
+use Rattle.words.specs.Tests.{within, _unless_then_}
+use Rattle.words.proofs.Tests.{both-true, within-true}
+use Rattle.words.proofs.Lists.{sum-same, gather-length}
+use Rattle.roads.specs.Map.{Map}
+use Rattle.parts.specs.Size.{need}
+use Rattle.maps.specs.Rules.{countsFit}
+use Rattle.fleet.specs.State.{State}
+use Rattle.fleet.specs.Change.{Answer, refused, accepted}
+use Rattle.fleet.specs.Question.{Listed, listedWords, nearest, questionInRange, questionRefusal, Replied, listInto, replyBy, reply}
+use Rattle.answers.specs.declared.Reply.the-variants.{Unopened, OutOfRange, TooSmall, Accepted}
+use Rattle.answers.specs.Answered.{answered}
+use Rattle.calls.specs.Head.{opened, usedOf, Shows}
+use Rattle.calls.specs.Outcome.{Asked}
+use Rattle.calls.proofs.Head.{used-word, shown-opened, room}
+use Rattle.best_list.specs.declared.BestList.{BestList}
+use Rattle.best_list.proofs.Pass.{length-entries}
+use Rattle.question.specs.Kept.{Genuine, listIn, written}
+use Rattle.question.proofs.Shown.{vertices-read}
+
+clash : {b : Bool} → b ≡ true → b ≡ false → ⊥
+clash passes fails = true≢false (sym passes ∙ fails)
+
+pub used-within : (mem : List ℕ) → opened mem ≡ true → usedOf mem ≤ length mem
+unfolding opened
+used-within mem e =
+    let upToUsed = both-true _ (countsFit (word mem 2) (word mem 3) (word mem 4)) e in
+    let upToMark = both-true (leb headWords (length mem) && eqb (word mem 0) headMark) (leb (usedOf mem) (length mem)) (upToUsed .0) in
+    leb-true (usedOf mem) (length mem) (upToMark .1)
+
+-- The ranges.
+
+pub vertex-out : (vertices x k : ℕ) → vertices ≤ x → false ≡ questionInRange vertices x k
+vertex-out vertices x k h = rw (le-ltb x vertices h)
+
+pub vertex-in : (vertices x k : ℕ) (r : Bool) → x < vertices → r ≡ within 1 mostAsked k → r ≡ questionInRange vertices x k
+vertex-in vertices x k r h e = rw (lt-ltb x vertices h) e
+
+pub asked-few : (vertices x k : ℕ) → questionInRange vertices x k ≡ true → (x < vertices) × (1 ≤ k) × (k ≤ 32)
+asked-few vertices x k e =
+    let both = both-true (ltb x vertices) _ e in
+    let w = within-true 1 mostAsked k (both .1) in
+    (ltb-true x vertices (both .0), w .0, w .1)
+
+head-needed : (m : Map) → headWords ≤ need m
+unfolding need
+head-needed m = omega arith
+
+-- The words used of a memory that shows a fleet are its words.
+module _ {m : Map} {s : State} {mem : List ℕ} (shows : Shows m s mem) where
+  pub genuine-used : (used : ℕ) → used ≡ usedOf mem → Genuine m s (take used mem)
+  genuine-used used is = record { sound = shows .sound; good = shows .good; is = ap (λ (n : ℕ). take n mem) (is ∙ used-word shows) ∙ shows .words }
+
+  vertices-are : word mem 2 ≡ m .vertices
+  vertices-are = sym (getD-take (usedOf mem) mem 2 0 (omega (arith, enough))) ∙ vertices-read (genuine-used (usedOf mem) refl)
+    where
+      enough : 64 ≤ usedOf mem
+      enough = omega (arith, used-word shows, head-needed m)
+
+module _ (mem : List ℕ) (x k : ℕ) (out : List ℕ) where
+  pub asked-unopened : opened mem ≡ false → Asked mem x k out (answered Unopened) out
+  asked-unopened shut =
+      record {
+        screened = record { unopened = λ e. refl; range = λ e beyond. absurd (clash e shut); neither = λ e fits. absurd (clash e shut) };
+        genuine = λ m s shows. absurd (clash (shown-opened shows) shut);
+        refusal = λ n e. refl;
+        size = refl;
+      }
+
+  -- what a question with a refusal gets
+  refused-reply : (m : Map) (s : State) (n : ℕ) → questionRefusal (m .vertices) x k (length out) ≡ n → reply m s x k out ≡ replyBy n m s x k out
+  unfolding reply
+  refused-reply m s n e = ap (λ (j : ℕ). replyBy j m s x k out) e
+
+  pub asked-range : opened mem ≡ true → questionInRange (word mem 2) x k ≡ false → Asked mem x k out (answered OutOfRange) out
+  asked-range there beyond =
+      record {
+        screened = record { unopened = λ shut. absurd (clash there shut); range = λ e o. refl; neither = λ e fits. absurd (clash fits beyond) };
+        genuine = λ m s shows.
+            let r = refused-reply m s 7 (ap (λ (b : Bool). 7 unless b then 5 unless leb (3 * k) (length out) then 0) (ap (λ (v : ℕ). questionInRange v x k) (sym (vertices-are shows)) ∙ beyond)) in
+            (ap (λ (p : Replied). p .answer) (sym r), ap (λ (p : Replied). p .words) (sym r));
+        refusal = λ n e. refl;
+        size = refl;
+      }
+
+  module _ (there : opened mem ≡ true) (fits : questionInRange (word mem 2) x k ≡ true) where
+    fits-in : (m : Map) (s : State) → Shows m s mem → questionInRange (m .vertices) x k ≡ true
+    fits-in m s shows = ap (λ (v : ℕ). questionInRange v x k) (sym (vertices-are shows)) ∙ fits
+
+    pub asked-small : length out < 3 * k → Asked mem x k out (answered TooSmall) out
+    asked-small small =
+        record {
+          screened = record { unopened = λ shut. absurd (clash there shut); range = λ e beyond. absurd (clash fits beyond); neither = λ e f. (λ six. omega arith, λ seven. omega arith) };
+          genuine = λ m s shows.
+              let r = refused-reply m s 5
+              (ap (λ (b : Bool). 7 unless b then 5 unless leb (3 * k) (length out) then 0) (fits-in m s shows)
+              ∙ ap (λ (b : Bool). 5 unless b then 0) (lt-leb (3 * k) (length out) small)) in
+              (ap (λ (p : Replied). p .answer) (sym r), ap (λ (p : Replied). p .words) (sym r));
+          refusal = λ n e. refl;
+          size = refl;
+        }
+
+    pub asked-listed : {used : ℕ} (best : BestList) {out′ : List ℕ} → used ≡ usedOf mem → 3 * k ≤ length out → best .len ≤ k → length (best .fars) ≡ 32 → length (best .vans) ≡ 32
+        → ((m : Map) (s : State) → Genuine m s (take used mem) → x < m .vertices → listIn (take used mem) best ≡ nearest m s x k)
+        → out′ ≡ written (listIn (take used mem) best) out → Asked mem x k out (answered (Accepted (best .len))) out′
+    unfolding written listInto
+    asked-listed {used} best {out′} isUsed enough few fars vans right isOut =
+        record {
+          screened = record { unopened = λ shut. absurd (clash there shut); range = λ e beyond. absurd (clash fits beyond); neither = λ e f. (λ six. omega arith, λ seven. omega arith) };
+          genuine = genuine;
+          refusal = λ n e. let z : _≡_ {A = ℕ} 0 1 = cc in absurd (omega arith);
+          size = ap length isOut ∙ sized;
+        }
+      where
+        list : List Listed
+        list = listIn (take used mem) best
+
+        list-length : length list ≡ best .len
+        list-length =
+            let range = asked-few (word mem 2) x k fits in
+            length-entries _ (best .fars) (best .vans) (best .len) (omega (arith, few, fars, range)) (omega (arith, few, vans, range))
+
+        sized : length (gather listedWords list ++ drop (3 * length list) out) ≡ length out
+        sized =
+            omega (
+              arith,
+              length-append (gather listedWords list) (drop (3 * length list) out),
+              gather-length listedWords (λ l. 3) (λ l. refl) list ∙ sum-same 3 list,
+              length-drop (3 * length list) out,
+              list-length,
+              few,
+              enough,
+            )
+
+        genuine : (m : Map) (s : State) → Shows m s mem → (accepted (best .len) ≡ reply m s x k out .answer) × (out′ ≡ reply m s x k out .words)
+        genuine m s shows =
+            let inside = fits-in m s shows in
+            let same = right m s (genuine-used shows used isUsed) (asked-few (m .vertices) x k inside .0) in
+            let r = refused-reply m s 0
+            (ap (λ (b : Bool). 7 unless b then 5 unless leb (3 * k) (length out) then 0) inside ∙ ap (λ (b : Bool). 5 unless b then 0) (le-leb (3 * k) (length out) enough)) in (
+              ap accepted (sym list-length) ∙ ap (λ (l : List Listed). listInto l out .answer) same ∙ ap (λ (p : Replied). p .answer) (sym r),
+              isOut ∙ ap (λ (l : List Listed). listInto l out .words) same ∙ ap (λ (p : Replied). p .words) (sym r),
+            )

@@ -1,0 +1,1 @@
+-- The gate of a question has no definitions of its own.

@@ -1,0 +1,10 @@
+pub mod Numbers
+pub mod Places
+pub mod Lowering
+pub mod Trying
+pub mod Below
+pub mod Pairs
+pub mod Range
+pub mod Roads
+pub mod Rising
+pub mod Descent

@@ -1,0 +1,232 @@
+-- The table of a part, right inside the part: blanked, lowered by the roads and the children's tables, and closed.
+-- Assumes nothing.
+use mathlib.Core.Path.{_≡_, refl, sym, ap, _∙_, subst, subst⁻¹}
+use mathlib.Core.Logic.{_⊎_, inl, inr, ⊎-elim, _≢_}
+use mathlib.Core.Bool.{Bool, true, false, cond}
+use mathlib.Core.List.{List, List·Memᴰ}
+use Prim.Native.Nat.{ℕ, suc, _+_, _*_, _≤_, _<_}
+use native.Mathlib.Nat.{eq-or-lt-of-le}
+use native.Mathlib.Decide.{decLt, ℕ-discrete}
+use native.Mathlib.Omega.{arith}
+use lib.ListN.{length, getD}
+use lib.Dec.{eqb}
+use borrow.Author.Tests.{eq-eqb, ne-eqb}
+use Rattle.words.specs.Lists.{word, placeIn}
+use Rattle.words.proofs.Lists.{place-in}
+use Rattle.words.proofs.Places.{place-of-entry}
+use Rattle.roads.specs.Map.{Road, Map, partCount, roadCount, noRoad, roadAt}
+use Rattle.roads.specs.Dist.{dist}
+use Rattle.roads.proofs.Laws.{dist-most, dist-self}
+use Rattle.parts.specs.Tree.{holds, children}
+use Rattle.parts.specs.Size.{rowVertices, sizeOf}
+use Rattle.parts.proofs.Rows.{rows-unique}
+use Rattle.maps.proofs.Distances.{sound-net, sound-tree}
+use Rattle.image.specs.Places.{tablesAt, rowsAt, tableOf}
+use Rattle.image.specs.Records.{rowVertex}
+use Rattle.image.proofs.Records.{rows-end}
+use Rattle.inner_walks.specs.Inner.{Inner}
+use Rattle.inner_walks.proofs.Inner.{inner-start, inner-end}
+use Rattle.inner_walks.proofs.Up.{closed-least}
+use Rattle.table_rows.specs.Flat.{blank, Becomes, Blanked, Tried}
+use Rattle.assembly.specs.Laid.{Laid, entry, Outside}
+use Rattle.assembly.specs.Lower.{Honest, Lower, Inside}
+use Rattle.assembly.specs.Steps.{RowIn, placeBelow, Agreed, Noted, Roads, Tight, AtHome, Closed, Risen}
+use Rattle.assembly.proofs.Places.{table-from, tables-apart, table-to, entry-to, row-is, row-real, size-few, laid-kept}
+use Rattle.assembly.proofs.Lowering.{lower-none, lower-then, inside-lower}
+use Rattle.assembly.proofs.Trying.{tried-lower, tried-tight, tried-keeps}
+use Rattle.assembly.proofs.Below.{child-later, place-below}
+use Rattle.assembly.proofs.Range.{numbered}
+
+-- ---- a vertex and its row
+
+module _ (m : Map) (p : ℕ) where
+  -- the row of vertex v
+  abbrev pub rowOfVertex : ℕ → ℕ
+  rowOfVertex v = placeIn v (rowVertices m p)
+
+  pub vertex-row : (v : ℕ) → List·Memᴰ v (rowVertices m p) → (rowOfVertex v < sizeOf m p) × (rowVertex m p (rowOfVertex v) ≡ v)
+  unfolding sizeOf
+  vertex-row v h = place-in v (rowVertices m p) h
+
+  pub row-again : (i : ℕ) → i < sizeOf m p → rowOfVertex (rowVertex m p i) ≡ i
+  unfolding sizeOf
+  row-again i h = place-of-entry (rows-unique m p) i h
+
+-- ---- every row vertex tried
+
+module _ (start : List ℕ) (p : ℕ) where
+  abbrev pub ClosedTo : ℕ → List ℕ → Type 0
+  ClosedTo k mem = (m : Map) → Laid m start → p < partCount m → AtHome m p start → Closed m p k start mem
+
+  pub closed-first : ClosedTo 0 start
+  closed-first m L hp home = record { lower = lower-none m p start; tight = λ k h. absurd (omega arith) }
+
+  pub closed-turn : {size table : ℕ} (before after : List ℕ) (k : ℕ) → k < size → size ≡ getD start (64 + 8 * p + 1) 0 → table ≡ getD start (64 + 8 * p + 3) 0 →
+      ClosedTo k before → Tried table size k before after → ClosedTo (k + 1) after
+  closed-turn {size} {table} before after k hk size-is table-is done T m L hp home =
+      let A = done m L hp home in
+      let K = laid-kept m start before (A .lower .sized) (A .lower .outside) L in
+      let fits : k < sizeOf m p = omega (arith, L .part p hp .size) in
+      let T′ : Tried (tableOf m p) (sizeOf m p) k before after = rw (size-is ∙ L .part p hp .size, table-is ∙ L .part p hp .table) at T in
+      record {
+        lower = lower-then (A .lower) (tried-lower m before after K p k hp fits T′ p (omega arith));
+        tight = λ l hl. elim (eq-or-lt-of-le hl) [
+          | inl e ↦
+              let same : l ≡ k = omega arith in
+              subst⁻¹ (λ (x : ℕ). Tight m p x after) same
+              (tried-tight m before after K p k hp fits T′ (omega (arith, A .lower .less p k k (omega arith) hp fits fits, home k fits)))
+          | inr less ↦ tried-keeps m before after K p k hp fits T′ p l hp (omega (arith, fits)) (A .tight l (omega arith))
+        ];
+      }
+
+  pub closed-done : {size : ℕ} (mem : List ℕ) (k : ℕ) → k ≤ size → size ≤ k → size ≡ getD start (64 + 8 * p + 1) 0 → ClosedTo k mem →
+      (m : Map) → Laid m start → p < partCount m → AtHome m p start → Closed m p (sizeOf m p) start mem
+  closed-done mem k within all size-is done m L hp home = subst (λ (n : ℕ). Closed m p n start mem) (omega (arith, L .part p hp .size)) (done m L hp home)
+
+-- ---- a table blanked
+
+module _ (m : Map) (before after : List ℕ) (L : Laid m before) (p : ℕ) (hp : p < partCount m) (B : Blanked (tableOf m p) (sizeOf m p) before after) where
+  made : Becomes (tableOf m p) (sizeOf m p) (λ T. blank) before after
+  made = B .blanked (size-few m (L .sound) p hp) (omega (arith, L .fits, rows-end m, table-to m p hp))
+
+  pub blank-outside : (x : ℕ) → Outside m x → word after x ≡ word before x
+  blank-outside x out = made .outside x (⊎-elim (λ below. inl (omega (arith, table-from m p))) (λ above. inr (omega (arith, table-to m p hp))) out)
+
+  pub blank-home : AtHome m p after
+  unfolding blank
+  blank-home i hi = omega (arith, rw (eq-eqb i i refl) at (made .each i i hi hi))
+
+  blank-later : (q i j : ℕ) → p < q → i < sizeOf m q → j < sizeOf m q → entry m after q i j ≡ entry m before q i j
+  blank-later q i j less hi hj = made .outside (tableOf m q + (sizeOf m q * i + j)) (inr (omega (arith, tables-apart m p q less)))
+
+  blank-own : (i j : ℕ) → i < sizeOf m p → j < sizeOf m p → dist m (rowVertex m p i) (rowVertex m p j) ≤ entry m after p i j
+  unfolding blank
+  blank-own i j hi hj = elim (ℕ-discrete i j) [
+    | yes same ↦
+        rw (← same) (omega (arith, dist-self m (sound-net m (L .sound)) (rowVertex m p i) (row-real m p i hi)))
+    | no other ↦
+        omega (arith, rw (ne-eqb i j other) at (made .each i j hi hj), dist-most m (sound-net m (L .sound)) (rowVertex m p i) (row-real m p i hi) (rowVertex m p j))
+  ]
+
+  pub blank-honest : Inside m (suc p) before → Honest m p after
+  blank-honest I q i j low hq hi hj = elim (ℕ-discrete q p) [
+    | yes same ↦ subst⁻¹ (λ (x : ℕ). i < sizeOf m x → j < sizeOf m x → dist m (rowVertex m x i) (rowVertex m x j) ≤ entry m after x i j) same (blank-own i j) hi hj
+    | no other ↦ omega (arith, blank-later q i j (omega (arith, other)) hi hj, I .honest q i j (omega (arith, other)) hq hi hj)
+  ]
+
+  pub blank-inner : Inside m (suc p) before → (q i j w : ℕ) → p < q → q < partCount m → i < sizeOf m q → j < sizeOf m q → Inner m q (rowVertex m q i) (rowVertex m q j) w → entry m after q i j ≤ w
+  blank-inner I q i j w less hq hi hj walk = omega (arith, blank-later q i j less hi hj, I .inner q i j w less hq hi hj walk)
+
+-- ---- the whole step
+
+module _ (m : Map) (mem one two three four : List ℕ) (L : Laid m mem) (p : ℕ) (hp : p < partCount m) (I : Inside m (suc p) mem)
+    (B : Blanked (tableOf m p) (sizeOf m p) mem one) (R : Roads m p (sizeOf m p) one two) (A : Agreed m p p (sizeOf m p) two three) (C : Closed m p (sizeOf m p) three four) where
+  T : ℕ → ℕ → ℕ
+  T a b = entry m four p (rowOfVertex m p a) (rowOfVertex m p b)
+
+  later : Lower m p one four
+  later = lower-then (R .lower) (lower-then (A .lower) (C .lower))
+
+  -- of the roads
+  road-least : (r : Road) → List·Memᴰ r (m .roads) → List·Memᴰ (r .from) (rowVertices m p) → List·Memᴰ (r .to) (rowVertices m p) → T (r .from) (r .to) ≤ r .weight
+  unfolding T
+  road-least r h hf ht =
+      let n = numbered noRoad (m .roads) r h in
+      let f = vertex-row m p (r .from) hf in
+      let t = vertex-row m p (r .to) ht in
+      omega (
+        arith,
+        R .road (n .0) (rowOfVertex m p (r .from)) (rowOfVertex m p (r .to)) (f .0) (n .1) (t .0) (ap (λ (x : Road). x .from) (n .2) ∙ sym (f .1)) (ap (λ (x : Road). x .to) (n .2) ∙ sym (t .1)),
+        ap (λ (x : Road). x .weight) (n .2),
+        A .lower .less p (rowOfVertex m p (r .from)) (rowOfVertex m p (r .to)) (omega arith) hp (f .0) (t .0),
+        C .lower .less p (rowOfVertex m p (r .from)) (rowOfVertex m p (r .to)) (omega arith) hp (f .0) (t .0),
+      )
+
+  -- of the children
+  child-least : (c a b w : ℕ) → List·Memᴰ c (children m p) → List·Memᴰ a (rowVertices m p) → List·Memᴰ b (rowVertices m p) → Inner m c a b w → T a b ≤ w
+  unfolding T
+  child-least c a b w hc ha hb walk =
+      let ra = vertex-row m p a ha in
+      let rb = vertex-row m p b hb in
+      let i = rowOfVertex m p a in
+      let j = rowOfVertex m p b in
+      let ia : RowIn m p i c = record { is-child = hc; is-held = subst⁻¹ (λ (v : ℕ). holds m c v ≡ true) (ra .1) (inner-start walk) } in
+      let jb : RowIn m p j c = record { is-child = hc; is-held = subst⁻¹ (λ (v : ℕ). holds m c v ≡ true) (rb .1) (inner-end walk) } in
+      let k = place-below m (L .sound) p i c (ra .0) ia in
+      let l = place-below m (L .sound) p j c (rb .0) jb in
+      let low = child-later m (L .sound) p c hc in
+      let known : Inner m c (rowVertex m c (placeBelow m p i c)) (rowVertex m c (placeBelow m p j c)) w =
+      subst⁻¹ (λ (v : ℕ). Inner m c v (rowVertex m c (placeBelow m p j c)) w) (k .1 ∙ ra .1) (subst⁻¹ (λ (v : ℕ). Inner m c a v w) (l .1 ∙ rb .1) walk) in
+      omega (
+        arith,
+        blank-inner m mem one L p hp B I c (placeBelow m p i c) (placeBelow m p j c) w (low .1) (low .0) (k .0) (l .0) known,
+        R .lower .less c (placeBelow m p i c) (placeBelow m p j c) (omega (arith, low .1)) (low .0) (k .0) (l .0),
+        A .up c i j (ra .0) (rb .0) ia jb,
+        C .lower .less p i j (omega arith) hp (ra .0) (rb .0),
+      )
+
+  own-least : (i j w : ℕ) → i < sizeOf m p → j < sizeOf m p → Inner m p (rowVertex m p i) (rowVertex m p j) w → entry m four p i j ≤ w
+  unfolding T
+  own-least i j w hi hj walk =
+      subst (λ (k : ℕ). entry m four p k j ≤ w) (row-again m p i hi)
+      (subst (λ (l : ℕ). entry m four p (rowOfVertex m p (rowVertex m p i)) l ≤ w) (row-again m p j hj)
+      (closed-least m (sound-net m (L .sound)) (sound-tree m (L .sound)) p T (record {
+        at-home = λ a ha. let ra = vertex-row m p a ha in omega (arith, later .less p (rowOfVertex m p a) (rowOfVertex m p a) (omega arith) hp (ra .0) (ra .0), blank-home m mem one L p hp B (rowOfVertex m p a) (ra .0));
+        road = road-least;
+        child = child-least;
+        tried = λ a k b ha hk hb. C .tight (rowOfVertex m p k) (vertex-row m p k hk .0) (rowOfVertex m p a) (rowOfVertex m p b) (vertex-row m p a ha .0) (vertex-row m p b hb .0);
+      }) (rowVertex m p i) (rowVertex m p j) w (row-is m p i hi) (row-is m p j hj) walk))
+
+  pub risen : Risen m p mem four
+  risen = record {
+    sized = later .sized ∙ B .sized;
+    outside = λ x out. later .outside x out ∙ blank-outside m mem one L p hp B x out;
+    inside = record {
+      honest = later .honest (blank-honest m mem one L p hp B I);
+      inner = λ q i j w low hq hi hj walk. elim (ℕ-discrete q p) [
+        | yes same ↦ subst⁻¹ (λ (x : ℕ). i < sizeOf m x → j < sizeOf m x → Inner m x (rowVertex m x i) (rowVertex m x j) w → entry m four x i j ≤ w) same (own-least i j w) hi hj walk
+        | no other ↦ omega (arith, later .less q i j low hq hi hj, blank-inner m mem one L p hp B I q i j w (omega (arith, other)) hq hi hj walk)
+      ];
+    };
+  }
+
+-- as the code has it
+pub risen-step : (mem one two three four : List ℕ) (p : ℕ) {size table wide : ℕ} {place : List ℕ} → size ≡ getD mem (64 + 8 * p + 1) 0 → table ≡ getD mem (64 + 8 * p + 3) 0 →
+    Blanked table size mem one → ((m : Map) → Laid m one → p < partCount m → 4096 ≤ wide → Noted m p (sizeOf m p) place) →
+    ((m : Map) → Laid m one → p < partCount m → Noted m p (sizeOf m p) place → Roads m p (sizeOf m p) one two) →
+    ((m : Map) (low : ℕ) → Laid m two → low ≤ p → p < partCount m → Agreed m low p (sizeOf m p) two three) →
+    ((m : Map) → Laid m three → p < partCount m → AtHome m p three → Closed m p (sizeOf m p) three four) →
+    (m : Map) → Laid m mem → p < partCount m → 4096 ≤ wide → Inside m (suc p) mem → Risen m p mem four
+risen-step mem one two three four p size-is table-is B note roads agree close m L hp few I =
+    let B′ : Blanked (tableOf m p) (sizeOf m p) mem one = rw (size-is ∙ L .part p hp .size, table-is ∙ L .part p hp .table) at B in
+    let L1 = laid-kept m mem one (B .sized) (blank-outside m mem one L p hp B′) L in
+    let R = roads m L1 hp (note m L1 hp few) in
+    let L2 = laid-kept m one two (R .lower .sized) (R .lower .outside) L1 in
+    let A = agree m p L2 (omega arith) hp in
+    let L3 = laid-kept m two three (A .lower .sized) (A .lower .outside) L2 in
+    let C = close m L3 hp (λ i hi. omega (arith, A .lower .less p i i (omega arith) hp hi hi, R .lower .less p i i (omega arith) hp hi hi, blank-home m mem one L p hp B′ i hi)) in
+    risen m mem one two three four L p hp I B′ R A C
+
+-- ---- part after part, from the last to the first
+
+module _ (start : List ℕ) (wide : ℕ) where
+  abbrev pub RisenTo : ℕ → List ℕ → Type 0
+  RisenTo p mem = (m : Map) → Laid m start → 4096 ≤ wide → Risen m p start mem
+
+  pub risen-first : {count : ℕ} → count ≡ getD start 4 0 → RisenTo count start
+  risen-first count-is m L few = record {
+    sized = refl;
+    outside = λ x out. refl;
+    inside = record { honest = λ q i j low hq. absurd (omega (arith, L .parts)); inner = λ q i j w low hq. absurd (omega (arith, L .parts)) };
+  }
+
+  pub risen-turn : {count q : ℕ} (before after : List ℕ) (p : ℕ) → q ≤ count → count ≡ getD start 4 0 → suc p ≡ q → RisenTo q before →
+      ((m : Map) → Laid m before → p < partCount m → 4096 ≤ wide → Inside m (suc p) before → Risen m p before after) → RisenTo p after
+  risen-turn before after p within count-is next done step m L few =
+      let A = done m L few in
+      let K = laid-kept m start before (A .sized) (A .outside) L in
+      let S = step m K (omega (arith, L .parts)) few (subst⁻¹ (λ (x : ℕ). Inside m x before) next (A .inside)) in
+      record { sized = S .sized ∙ A .sized; outside = λ x out. S .outside x out ∙ A .outside x out; inside = S .inside }
+
+  pub risen-done : (mem : List ℕ) (p : ℕ) → p ≤ 0 → RisenTo p mem → (m : Map) → Laid m start → 4096 ≤ wide → Risen m 0 start mem
+  risen-done mem p none done m L few = subst (λ (n : ℕ). Risen m n start mem) (omega arith) (done m L few)

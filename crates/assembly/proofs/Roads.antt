@@ -1,0 +1,275 @@
+-- The roads between the row vertices of a part: the noted places, and the words that the roads lower.
+-- Assumes nothing.
+use mathlib.Core.Path.{_≡_, refl, sym, ap, _∙_, subst, subst⁻¹}
+use mathlib.Core.Logic.{inl, inr}
+use mathlib.Core.List.{List}
+use Prim.Native.Nat.{ℕ, suc, _+_, _*_, _≤_, _<_, min}
+use native.Mathlib.Nat.{eq-or-lt-of-le}
+use native.Mathlib.Numerals.{add-one}
+use native.Mathlib.Omega.{arith}
+use lib.ListN.{length, getD, set}
+use lib.Seq.{getD-set-same, getD-set-other}
+use Rattle.words.specs.Lists.{word, placeIn}
+use Rattle.words.proofs.Places.{entry-in, place-of-entry}
+use Rattle.roads.specs.Map.{Road, Map, partCount, roadCount, noRoad, roadAt}
+use Rattle.roads.specs.Dist.{dist}
+use Rattle.roads.proofs.Laws.{dist-self, dist-road}
+use Rattle.parts.specs.Size.{rowVertices, sizeOf}
+use Rattle.parts.proofs.Rows.{rows-unique}
+use Rattle.maps.proofs.Distances.{sound-net}
+use Rattle.image.specs.Places.{verticesAt, roadsAt, tableOf, firstRowOf}
+use Rattle.image.specs.Image.{firstRoadFrom, partBelow}
+use Rattle.image.specs.Records.{rowVertex}
+use Rattle.image.proofs.Records.{vertices-start, roads-start}
+use Rattle.assembly.specs.Laid.{Laid, entry}
+use Rattle.assembly.specs.Lower.{lowered, Lower}
+use Rattle.assembly.specs.Steps.{Noted, RoadsOf, Roads}
+use Rattle.assembly.proofs.Places.{row-real, laid-kept}
+use Rattle.assembly.proofs.Lowering.{lower-none, lower-then, lower-one, lower-one-at}
+use Rattle.assembly.proofs.Pairs.{vertex-small}
+use Rattle.assembly.proofs.Range.{road-range, first-road-few, first-road-last}
+
+-- two rows of a part are of two vertices
+pub row-differ : (m : Map) (p i j : ℕ) → i < sizeOf m p → j < sizeOf m p → rowVertex m p i ≡ rowVertex m p j → i ≡ j
+unfolding sizeOf
+row-differ m p i j hi hj e =
+    sym (place-of-entry (rows-unique m p) i hi) ∙ ap (λ (v : ℕ). placeIn v (rowVertices m p)) e ∙ place-of-entry (rows-unique m p) j hj
+
+-- the vertex of row i, as its word 2 shows it
+pub shown-vertex : (m : Map) (mem : List ℕ) → Laid m mem → (p i : ℕ) → p < partCount m → i < sizeOf m p → {first mark v : ℕ} → first ≡ getD mem (64 + 8 * p + 2) 0 →
+    mark ≡ getD mem (first + 4 * i + 2) 0 → ((u d : ℕ) → u < 65536 → mark ≡ u + 65536 * d → v ≡ u) → v ≡ rowVertex m p i
+shown-vertex m mem L p i hp hi {first} first-is shown reads =
+    reads (rowVertex m p i) (partBelow m p (rowVertex m p i)) (vertex-small m mem L p i hi)
+    (shown ∙ ap (λ (f : ℕ). getD mem (f + 4 * i + 2) 0) (first-is ∙ L .part p hp .first-row) ∙ L .row p i hp hi .mark)
+
+-- ---- places noted
+
+module _ (mem : List ℕ) (p wide : ℕ) where
+  abbrev pub NotedTo : ℕ → List ℕ → Type 0
+  NotedTo i place = (m : Map) → Laid m mem → p < partCount m → 4096 ≤ wide → Noted m p i place
+
+  pub noted-first : (place : List ℕ) → NotedTo 0 place
+  noted-first place m L hp few = record { each = λ i h. absurd (omega arith) }
+
+  pub noted-turn : {size first mark v at : ℕ} (place : List ℕ) {after : List ℕ} (i : ℕ) → i < size → size ≡ getD mem (64 + 8 * p + 1) 0 → length place ≡ wide → NotedTo i place →
+      first ≡ getD mem (64 + 8 * p + 2) 0 → mark ≡ getD mem (first + 4 * i + 2) 0 → ((u d : ℕ) → u < 65536 → mark ≡ u + 65536 * d → v ≡ u) →
+      at ≡ v → after ≡ set place at i → NotedTo (i + 1) after
+  noted-turn {v = v} {at = at} place {after} i hi size-is long done first-is shown reads at-is put m L hp few =
+      record {
+        each = λ k hk. ap (λ (l : List ℕ). getD l (rowVertex m p k) 0) put ∙ elim (eq-or-lt-of-le hk) [
+          | inl q ↦
+              let same : k ≡ i = omega arith in
+              rw same (rw (← own) (getD-set-same place at i 0 (omega (arith, own, row-real m p i fits, L .sound .vertices .1))))
+          | inr less ↦
+              getD-set-other place at (rowVertex m p k) i 0 (λ same. omega (arith, row-differ m p k i (omega (arith, fits)) fits (same ∙ own)))
+              ∙ done m L hp few .each k (omega arith)
+        ];
+      }
+    where
+      fits : i < sizeOf m p
+      fits = omega (arith, L .part p hp .size)
+
+      own : at ≡ rowVertex m p i
+      own = at-is ∙ shown-vertex m mem L p i hp fits first-is shown reads
+
+  pub noted-done : {size : ℕ} (place : List ℕ) (i : ℕ) → i ≤ size → size ≤ i → size ≡ getD mem (64 + 8 * p + 1) 0 → NotedTo i place → (m : Map) → Laid m mem → p < partCount m →
+      4096 ≤ wide → Noted m p (sizeOf m p) place
+  noted-done place i within all size-is done m L hp few = subst (λ (n : ℕ). Noted m p n place) (omega (arith, L .part p hp .size)) (done m L hp few)
+
+-- ---- the first road from a vertex
+
+pub first-road-shown : (mem : List ℕ) {v all parts at from r : ℕ} → all ≡ getD mem 2 0 → v < all → parts ≡ getD mem 4 0 → at ≡ parts → from ≡ v → r ≡ getD mem (64 + 8 * at + 8 * from + 2) 0 →
+    (m : Map) → Laid m mem → v ≤ m .vertices → r ≡ firstRoadFrom m v
+first-road-shown mem {v} {at = at} {from = from} all-is less parts-is at-is from-is shown m L hv =
+    shown ∙ ap (λ (x : ℕ). getD mem x 0) place ∙ L .first-road v (omega (arith, L .vertices))
+  where
+    place : 64 + 8 * at + 8 * from + 2 ≡ verticesAt m + 8 * v + 2
+    place = omega (arith, vertices-start m, L .parts)
+
+pub first-road-end : (mem : List ℕ) {v all r : ℕ} → all ≡ getD mem 2 0 → all ≤ v → r ≡ getD mem 3 0 → (m : Map) → Laid m mem → v ≤ m .vertices → r ≡ firstRoadFrom m v
+first-road-end mem {v} all-is past shown m L hv =
+    shown ∙ L .roads ∙ sym (first-road-last m (L .sound)) ∙ ap (firstRoadFrom m) last
+  where
+    last : m .vertices ≡ v
+    last = omega (arith, L .vertices)
+
+-- ---- one road
+
+module _ (mem place : List ℕ) (m : Map) (L : Laid m mem) (p i r : ℕ) (hp : p < partCount m) (hi : i < sizeOf m p) (hr : r < roadCount m) (N : Noted m p (sizeOf m p) place) where
+  -- it leads elsewhere: nothing is to be done
+  road-none : ((j : ℕ) → j < sizeOf m p → roadAt m r .from ≡ rowVertex m p i → roadAt m r .to ≡ rowVertex m p j → ⊥) → RoadsOf m p i r (suc r) mem mem
+  road-none never = record {
+    lower = lower-none m p mem;
+    road = λ s j low high hs hj from to.
+        let same : s ≡ r = omega arith in
+        absurd (never j hj (ap (λ (k : ℕ). roadAt m k .from) (sym same) ∙ from) (ap (λ (k : ℕ). roadAt m k .to) (sym same) ∙ to));
+  }
+
+  pub road-from-another : {from v : ℕ} → from ≡ roadAt m r .from → v ≡ rowVertex m p i → (from ≡ v → ⊥) → RoadsOf m p i r (suc r) mem mem
+  road-from-another from-is v-is other = road-none (λ j hj starts ends. other (from-is ∙ starts ∙ sym v-is))
+
+  noted-is : {to at j : ℕ} → to ≡ roadAt m r .to → at ≡ to → j ≡ getD place at 0 → (k : ℕ) → k < sizeOf m p → roadAt m r .to ≡ rowVertex m p k → j ≡ k
+  noted-is to-is at-is shown k hk ends = shown ∙ ap (λ (x : ℕ). getD place x 0) (at-is ∙ to-is ∙ ends) ∙ N .each k hk
+
+  pub road-past : {to at j size : ℕ} → to ≡ roadAt m r .to → at ≡ to → j ≡ getD place at 0 → size ≡ getD mem (64 + 8 * p + 1) 0 → size ≤ j → RoadsOf m p i r (suc r) mem mem
+  road-past to-is at-is shown size-is past = road-none (λ k hk starts ends. omega (arith, noted-is to-is at-is shown k hk ends, L .part p hp .size))
+
+  pub road-to-another : {to at j v : ℕ} → to ≡ roadAt m r .to → at ≡ to → j ≡ getD place at 0 → (j < sizeOf m p → v ≡ rowVertex m p j) → (to ≡ v → ⊥) → RoadsOf m p i r (suc r) mem mem
+  road-to-another {j = j} to-is at-is shown v-is other = road-none (λ k hk starts ends.
+      let same = noted-is to-is at-is shown k hk ends in
+      other (to-is ∙ ends ∙ ap (rowVertex m p) (sym same) ∙ sym (v-is (subst⁻¹ (λ (x : ℕ). x < sizeOf m p) same hk))))
+
+  -- it leads from row i to row j
+  pub road-taken : {from to weight u v size table line j column : ℕ} {after : List ℕ} → from ≡ roadAt m r .from → to ≡ roadAt m r .to → weight ≡ roadAt m r .weight →
+      u ≡ rowVertex m p i → from ≡ u → size ≡ getD mem (64 + 8 * p + 1) 0 → j < size → (j < sizeOf m p → v ≡ rowVertex m p j) → to ≡ v →
+      table ≡ getD mem (64 + 8 * p + 3) 0 → line ≡ table + size * i → column ≡ j → after ≡ lowered mem (line + column) weight → RoadsOf m p i r (suc r) mem after
+  road-taken {weight = weight} {size = size} {line = line} {j = j} {column = column} from-is to-is weight-is u-is starts size-is within v-is ends table-is line-is column-is after-is =
+      rw (after-is, there) (record {
+        lower = lower-one m mem (L .fits) p i j hp hi hj weight p (omega arith) (λ _. near);
+        road = λ s k low high hs hk from to.
+            let same : s ≡ r = omega arith in
+            let column-same : k ≡ j = row-differ m p k j hk hj (sym to ∙ ap (λ (x : ℕ). roadAt m x .to) same ∙ leads-to) in
+            rw (same, column-same, ← weight-is) (lower-one-at m mem (L .fits) p i j hp hi hj weight);
+      })
+    where
+      sized : size ≡ sizeOf m p
+      sized = size-is ∙ L .part p hp .size
+
+      hj : j < sizeOf m p
+      hj = omega (arith, sized)
+
+      there : line + column ≡ tableOf m p + (sizeOf m p * i + j)
+      there = omega (arith, table-is ∙ L .part p hp .table, ap (λ (n : ℕ). n * i) sized)
+
+      leads-from : roadAt m r .from ≡ rowVertex m p i
+      leads-from = sym from-is ∙ starts ∙ u-is
+
+      leads-to : roadAt m r .to ≡ rowVertex m p j
+      leads-to = sym to-is ∙ ends ∙ v-is hj
+
+      near : dist m (rowVertex m p i) (rowVertex m p j) ≤ weight
+      near =
+          subst (λ (v : ℕ). dist m (rowVertex m p i) v ≤ weight) leads-to
+          (omega (
+            arith,
+            dist-road m (sound-net m (L .sound)) (rowVertex m p i) (row-real m p i hi) (roadAt m r) (entry-in (m .roads) r noRoad hr),
+            subst⁻¹ (λ (v : ℕ). dist m (rowVertex m p i) v ≡ 0) leads-from (dist-self m (sound-net m (L .sound)) (rowVertex m p i) (row-real m p i hi)),
+          ))
+
+-- ---- one road, as the words of the memory show it
+
+abbrev pub ByRoad : List ℕ → List ℕ → ℕ → ℕ → ℕ → List ℕ → Type 0
+ByRoad mem place p i r after = (m : Map) → Laid m mem → p < partCount m → i < sizeOf m p → r < roadCount m → Noted m p (sizeOf m p) place → RoadsOf m p i r (suc r) mem after
+
+module _ (mem place : List ℕ) (p i r : ℕ) {parts a all b c size first table from to weight at j mark u : ℕ}
+    (parts-is : parts ≡ getD mem 4 0) (a-is : a ≡ parts) (all-is : all ≡ getD mem 2 0) (b-is : b ≡ all) (c-is : c ≡ r)
+    (size-is : size ≡ getD mem (64 + 8 * p + 1) 0) (first-is : first ≡ getD mem (64 + 8 * p + 2) 0) (table-is : table ≡ getD mem (64 + 8 * p + 3) 0)
+    (from-is : from ≡ getD mem (64 + 8 * a + 8 * b + 4 * c) 0) (to-is : to ≡ getD mem (64 + 8 * a + 8 * b + 4 * c + 1) 0) (weight-is : weight ≡ getD mem (64 + 8 * a + 8 * b + 4 * c + 2) 0)
+    (at-is : at ≡ to) (j-is : j ≡ getD place at 0) (mark-is : mark ≡ getD mem (first + 4 * i + 2) 0) (reads : (v d : ℕ) → v < 65536 → mark ≡ v + 65536 * d → u ≡ v) where
+  there : (m : Map) → Laid m mem → 64 + 8 * a + 8 * b + 4 * c ≡ roadsAt m + 4 * r
+  there m L = omega (arith, roads-start m, L .parts, L .vertices)
+
+  starts-at : (m : Map) → Laid m mem → r < roadCount m → from ≡ roadAt m r .from
+  starts-at m L hr = from-is ∙ ap (λ (x : ℕ). getD mem x 0) (there m L) ∙ L .road r hr .from
+
+  ends-at : (m : Map) → Laid m mem → r < roadCount m → to ≡ roadAt m r .to
+  ends-at m L hr = to-is ∙ ap (λ (x : ℕ). getD mem (x + 1) 0) (there m L) ∙ L .road r hr .to
+
+  weighs : (m : Map) → Laid m mem → r < roadCount m → weight ≡ roadAt m r .weight
+  weighs m L hr = weight-is ∙ ap (λ (x : ℕ). getD mem (x + 2) 0) (there m L) ∙ L .road r hr .weight
+
+  pub by-another : (from ≡ u → ⊥) → ByRoad mem place p i r mem
+  by-another other m L hp hi hr N = road-from-another mem place m L p i r hp hi hr N (starts-at m L hr) (shown-vertex m mem L p i hp hi first-is mark-is reads) other
+
+  pub by-none : size ≤ j → ByRoad mem place p i r mem
+  by-none past m L hp hi hr N = road-past mem place m L p i r hp hi hr N (ends-at m L hr) at-is j-is size-is past
+
+  module _ {mark′ v : ℕ} (mark′-is : mark′ ≡ getD mem (first + 4 * j + 2) 0) (reads′ : (w d : ℕ) → w < 65536 → mark′ ≡ w + 65536 * d → v ≡ w) where
+    pub by-other : (to ≡ v → ⊥) → ByRoad mem place p i r mem
+    by-other other m L hp hi hr N =
+        road-to-another mem place m L p i r hp hi hr N (ends-at m L hr) at-is j-is (λ hj. shown-vertex m mem L p j hp hj first-is mark′-is reads′) other
+
+    pub by-own : {line column : ℕ} {after : List ℕ} → from ≡ u → j < size → to ≡ v → line ≡ table + size * i → column ≡ j → after ≡ lowered mem (line + column) weight → ByRoad mem place p i r after
+    by-own starts within ends line-is column-is after-is m L hp hi hr N =
+        road-taken mem place m L p i r hp hi hr N (starts-at m L hr) (ends-at m L hr) (weighs m L hr) (shown-vertex m mem L p i hp hi first-is mark-is reads) starts size-is within
+        (λ hj. shown-vertex m mem L p j hp hj first-is mark′-is reads′) ends table-is line-is column-is after-is
+
+-- ---- all roads from one vertex
+
+module _ (start place : List ℕ) (p i from : ℕ) where
+  abbrev pub RoadsTo : ℕ → List ℕ → Type 0
+  RoadsTo r mem = (m : Map) → Laid m start → p < partCount m → i < sizeOf m p → Noted m p (sizeOf m p) place → RoadsOf m p i from r start mem
+
+  pub roads-first : RoadsTo from start
+  roads-first m L hp hi N = record { lower = lower-none m p start; road = λ r j low high. absurd (omega arith) }
+
+  pub roads-turn : {first mark v end : ℕ} (before after : List ℕ) (r : ℕ) → r < end →
+      first ≡ getD start (64 + 8 * p + 2) 0 → mark ≡ getD start (first + 4 * i + 2) 0 → ((u d : ℕ) → u < 65536 → mark ≡ u + 65536 * d → v ≡ u) →
+      ((m : Map) → Laid m start → v + 1 ≤ m .vertices → end ≡ firstRoadFrom m (v + 1)) → RoadsTo r before →
+      ((m : Map) → Laid m before → p < partCount m → i < sizeOf m p → r < roadCount m → Noted m p (sizeOf m p) place → RoadsOf m p i r (suc r) before after) → RoadsTo (r + 1) after
+  roads-turn {v = v} before after r hr first-is shown reads end-is done one m L hp hi N =
+      let A = done m L hp hi N in
+      let v-is = shown-vertex m start L p i hp hi first-is shown reads in
+      let within : r < roadCount m = omega (arith, end-is m L (omega (arith, v-is, row-real m p i hi)), first-road-few m (L .sound) (v + 1)) in
+      let B = one m (laid-kept m start before (A .lower .sized) (A .lower .outside) L) hp hi within N in
+      record {
+        lower = lower-then (A .lower) (B .lower);
+        road = λ s j low high hs hj starts ends. elim (eq-or-lt-of-le high) [
+          | inl e ↦
+              let same : s ≡ r = omega arith in
+              B .road s j (omega arith) (omega arith) hs hj starts ends
+          | inr less ↦ omega (arith, B .lower .less p i j (omega arith) hp hi hj, A .road s j low (omega arith) hs hj starts ends)
+        ];
+      }
+
+  pub roads-done : {first mark v end : ℕ} (mem : List ℕ) (r : ℕ) → end ≤ r → first ≡ getD start (64 + 8 * p + 2) 0 → mark ≡ getD start (first + 4 * i + 2) 0 →
+      ((u d : ℕ) → u < 65536 → mark ≡ u + 65536 * d → v ≡ u) → ((m : Map) → Laid m start → v ≤ m .vertices → from ≡ firstRoadFrom m v) →
+      ((m : Map) → Laid m start → v + 1 ≤ m .vertices → end ≡ firstRoadFrom m (v + 1)) → RoadsTo r mem →
+      (m : Map) → Laid m start → p < partCount m → i < sizeOf m p → Noted m p (sizeOf m p) place → RoadsOf m p i 0 (roadCount m) start mem
+  roads-done {v = v} {end = end} mem r all first-is shown reads from-is end-is done m L hp hi N =
+      let A = done m L hp hi N in
+      record {
+        lower = A .lower;
+        road = λ s j _ _ hs hj starts ends.
+            let range = road-range m (L .sound) s hs in
+            let e : roadAt m s .from ≡ v = starts ∙ sym v-is in
+            A .road s j
+            (omega (arith, range .0, from-is m L (omega (arith, v-is, row-real m p i hi)), ap (firstRoadFrom m) e))
+            (omega (arith, range .1, ends-at, ap (λ (x : ℕ). firstRoadFrom m (suc x)) e)) hs hj starts ends;
+      }
+    where
+      v-is : v ≡ rowVertex m p i
+      v-is = shown-vertex m start L p i hp hi first-is shown reads
+
+      ends-at : end ≡ firstRoadFrom m (suc v)
+      ends-at = end-is m L (omega (arith, v-is, row-real m p i hi)) ∙ ap (firstRoadFrom m) (add-one v)
+
+-- ---- row after row
+
+module _ (start place : List ℕ) (p : ℕ) where
+  abbrev pub RowsTaken : ℕ → List ℕ → Type 0
+  RowsTaken i mem = (m : Map) → Laid m start → p < partCount m → Noted m p (sizeOf m p) place → Roads m p i start mem
+
+  pub taken-first : RowsTaken 0 start
+  taken-first m L hp N = record { lower = lower-none m p start; road = λ r i j h. absurd (omega arith) }
+
+  pub taken-turn : {size : ℕ} (before after : List ℕ) (i : ℕ) → i < size → size ≡ getD start (64 + 8 * p + 1) 0 → RowsTaken i before →
+      ((m : Map) → Laid m before → p < partCount m → i < sizeOf m p → Noted m p (sizeOf m p) place → RoadsOf m p i 0 (roadCount m) before after) → RowsTaken (i + 1) after
+  taken-turn before after i hi size-is done row m L hp N =
+      let A = done m L hp N in
+      let fits : i < sizeOf m p = omega (arith, L .part p hp .size) in
+      let B = row m (laid-kept m start before (A .lower .sized) (A .lower .outside) L) hp fits N in
+      record {
+        lower = lower-then (A .lower) (B .lower);
+        road = λ r k j hk hr hj starts ends. elim (eq-or-lt-of-le hk) [
+          | inl e ↦
+              let same : k ≡ i = omega arith in
+              subst⁻¹ (λ (x : ℕ). roadAt m r .from ≡ rowVertex m p x → entry m after p x j ≤ roadAt m r .weight) same
+              (λ from. B .road r j (omega arith) hr hr hj from ends) starts
+          | inr less ↦ omega (arith, B .lower .less p k j (omega arith) hp (omega (arith, fits)) hj, A .road r k j (omega arith) hr hj starts ends)
+        ];
+      }
+
+  pub taken-done : {size : ℕ} (mem : List ℕ) (i : ℕ) → i ≤ size → size ≤ i → size ≡ getD start (64 + 8 * p + 1) 0 → RowsTaken i mem →
+      (m : Map) → Laid m start → p < partCount m → Noted m p (sizeOf m p) place → Roads m p (sizeOf m p) start mem
+  taken-done mem i within all size-is done m L hp N = subst (λ (n : ℕ). Roads m p n start mem) (omega (arith, L .part p hp .size)) (done m L hp N)

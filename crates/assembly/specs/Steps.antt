@@ -1,0 +1,113 @@
+-- What each step of filling the tables leaves.
+use mathlib.Core.Path.{_≡_}
+use mathlib.Core.Logic.{_⊎_, _≢_}
+use mathlib.Core.Bool.{true}
+use mathlib.Core.List.{List, List·Memᴰ}
+use Prim.Native.Nat.{ℕ, suc, _+_, _*_, _≤_, _<_, min}
+use lib.ListN.{length, getD}
+use Rattle.words.specs.Lists.{word, placeIn}
+use Rattle.roads.specs.Map.{Map, partCount, roadCount, roadAt}
+use Rattle.roads.specs.Dist.{dist}
+use Rattle.parts.specs.Tree.{parentOf, holds, children}
+use Rattle.parts.specs.Size.{rowVertices, sizeOf}
+use Rattle.image.specs.Places.{tableOf, firstRowOf}
+use Rattle.image.specs.Records.{rowVertex}
+use Rattle.assembly.specs.Laid.{Laid, entry, Outside}
+use Rattle.assembly.specs.Lower.{Honest, Lower, Inside, Short}
+
+-- ---- a row of a part and the same vertex's row in a child
+
+-- the row of row i's vertex in child c
+abbrev pub placeBelow : Map → ℕ → ℕ → ℕ → ℕ
+placeBelow m p i c = placeIn (rowVertex m p i) (rowVertices m c)
+
+-- the vertex of row i of part p stands in child c
+pub record RowIn (m : Map) (p i c : ℕ) : Type 0 where
+  pub is-child : List·Memᴰ c (children m p)
+  pub is-held : holds m c (rowVertex m p i) ≡ true
+
+-- ---- the words of a part and of its children, for the same two vertices
+
+-- of rows i and j of part p: the words of part and child are no more than what the other was
+pub record AgreedPair (m : Map) (low p i j : ℕ) (before after : List ℕ) : Type 0 where
+  pub lower : Lower m low before after
+  pub up : (c : ℕ) → RowIn m p i c → RowIn m p j c → entry m after p i j ≤ entry m before c (placeBelow m p i c) (placeBelow m p j c)
+  pub down : (c : ℕ) → RowIn m p i c → RowIn m p j c → entry m after c (placeBelow m p i c) (placeBelow m p j c) ≤ entry m before p i j
+
+-- of row i, with the first n rows
+pub record AgreedRow (m : Map) (low p i n : ℕ) (before after : List ℕ) : Type 0 where
+  pub lower : Lower m low before after
+  pub up : (c j : ℕ) → j < n → RowIn m p i c → RowIn m p j c → entry m after p i j ≤ entry m before c (placeBelow m p i c) (placeBelow m p j c)
+  pub down : (c j : ℕ) → j < n → RowIn m p i c → RowIn m p j c → entry m after c (placeBelow m p i c) (placeBelow m p j c) ≤ entry m before p i j
+
+-- of the first n rows, with all
+pub record Agreed (m : Map) (low p n : ℕ) (before after : List ℕ) : Type 0 where
+  pub lower : Lower m low before after
+  pub up : (c i j : ℕ) → i < n → j < sizeOf m p → RowIn m p i c → RowIn m p j c → entry m after p i j ≤ entry m before c (placeBelow m p i c) (placeBelow m p j c)
+  pub down : (c i j : ℕ) → i < n → j < sizeOf m p → RowIn m p i c → RowIn m p j c → entry m after c (placeBelow m p i c) (placeBelow m p j c) ≤ entry m before p i j
+
+-- where the words of row i of p and of its row in c stand
+pub record Lines (m : Map) (p i c size first line firstBelow lineBelow : ℕ) : Type 0 where
+  pub row-in : RowIn m p i c
+  pub size-is : size ≡ sizeOf m p
+  pub first-is : first ≡ firstRowOf m p
+  pub line-is : line ≡ tableOf m p + sizeOf m p * i
+  pub first-below-is : firstBelow ≡ firstRowOf m c
+  pub line-below-is : lineBelow ≡ tableOf m c + sizeOf m c * placeBelow m p i c
+
+-- ---- the roads of a part
+
+-- for each of the first n rows its place in the part
+pub record Noted (m : Map) (p n : ℕ) (place : List ℕ) : Type 0 where
+  pub each : (i : ℕ) → i < n → word place (rowVertex m p i) ≡ i
+
+-- the roads with a number of at least `from` and below `to`, from the vertex of row i to another row vertex
+pub record RoadsOf (m : Map) (p i from to : ℕ) (before after : List ℕ) : Type 0 where
+  pub lower : Lower m p before after
+  pub road : (r j : ℕ) → from ≤ r → r < to → r < roadCount m → j < sizeOf m p → roadAt m r .from ≡ rowVertex m p i → roadAt m r .to ≡ rowVertex m p j →
+      entry m after p i j ≤ roadAt m r .weight
+
+-- all roads from the vertices of the first n rows
+pub record Roads (m : Map) (p n : ℕ) (before after : List ℕ) : Type 0 where
+  pub lower : Lower m p before after
+  pub road : (r i j : ℕ) → i < n → r < roadCount m → j < sizeOf m p → roadAt m r .from ≡ rowVertex m p i → roadAt m r .to ≡ rowVertex m p j →
+      entry m after p i j ≤ roadAt m r .weight
+
+-- ---- nodes tried
+
+-- no way round by row k is lighter
+abbrev pub Tight : Map → ℕ → ℕ → List ℕ → Type 0
+Tight m q k mem = (i j : ℕ) → i < sizeOf m q → j < sizeOf m q → entry m mem q i j ≤ entry m mem q i k + entry m mem q k j
+
+-- a word of the diagonal is 0
+abbrev pub AtHome : Map → ℕ → List ℕ → Type 0
+AtHome m q mem = (i : ℕ) → i < sizeOf m q → entry m mem q i i ≤ 0
+
+-- the first n rows of p have been tried in the table of p
+pub record Closed (m : Map) (p n : ℕ) (before after : List ℕ) : Type 0 where
+  pub lower : Lower m p before after
+  pub tight : (k : ℕ) → k < n → Tight m p k after
+
+-- row i of p has been tried in the table of the child that holds it, and what was tried there before still is
+pub record EnteredRow (m : Map) (p i : ℕ) (before after : List ℕ) : Type 0 where
+  pub lower : Lower m 0 before after
+  pub tight : (c : ℕ) → RowIn m p i c → Tight m c (placeBelow m p i c) after
+  pub keeps : (q k : ℕ) → q < partCount m → k < sizeOf m q → Tight m q k before → Tight m q k after
+
+-- the first n rows of p have been tried in the tables of the children that hold them
+pub record Entered (m : Map) (p n : ℕ) (before after : List ℕ) : Type 0 where
+  pub lower : Lower m 0 before after
+  pub tight : (i c : ℕ) → i < n → RowIn m p i c → Tight m c (placeBelow m p i c) after
+
+-- ---- a part begun, and descended
+
+-- the tables from that of p on are right inside their parts, and no word outside the tables has changed
+pub record Risen (m : Map) (p : ℕ) (before after : List ℕ) : Type 0 where
+  pub sized : length after ≡ length before
+  pub outside : (x : ℕ) → Outside m x → word after x ≡ word before x
+  pub inside : Inside m p after
+
+-- so are all tables, and those of the root and of all parts whose parent is below p have no word above the distance
+pub record Descended (m : Map) (p : ℕ) (before after : List ℕ) : Type 0 where
+  pub risen : Risen m 0 before after
+  pub short : (q : ℕ) → q < partCount m → (q ≡ 0) ⊎ (parentOf m q < p) → Short m q after

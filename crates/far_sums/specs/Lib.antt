@@ -1,0 +1,2 @@
+-- The least of many distances.
+pub mod Least

@@ -1,0 +1,48 @@
+-- From a part down to a child. A table over the child's row vertices that lets no walk inside the child, no walk between two boundary vertices and
+-- no way round by a boundary vertex be lighter lets no walk of the map be lighter.
+-- Assumes nothing.
+use mathlib.Core.Path.{_≡_}
+use mathlib.Core.Logic.{⊎-elim}
+use mathlib.Core.Bool.{true}
+use mathlib.Core.List.{List·Memᴰ}
+use Prim.Native.Nat.{ℕ, _+_, _≤_}
+use native.Mathlib.Omega.{arith}
+use Rattle.roads.specs.Map.{Map}
+use Rattle.roads.specs.Walk.{Walk}
+use Rattle.roads.proofs.Trail.{Net}
+use Rattle.parts.specs.Tree.{children}
+use Rattle.parts.specs.Border.{boundary}
+use Rattle.parts.specs.Size.{rowVertices}
+use Rattle.parts.proofs.Down.{Tree}
+use Rattle.inner_walks.specs.Inner.{Inner}
+use Rattle.inner_walks.proofs.Inner.{inner-joined, cut-first, cut-last}
+use Rattle.inner_walks.proofs.Up.{row-held, boundary-row}
+
+pub record Entered (m : Map) (c : ℕ) (T : ℕ → ℕ → ℕ) : Type 0 where
+  pub inner : (a b w : ℕ) → List·Memᴰ a (rowVertices m c) → List·Memᴰ b (rowVertices m c) → Inner m c a b w → T a b ≤ w
+  pub between : (g h w : ℕ) → boundary m c g ≡ true → boundary m c h ≡ true → Walk m g h w → T g h ≤ w
+  pub tried : (a g b : ℕ) → List·Memᴰ a (rowVertices m c) → boundary m c g ≡ true → List·Memᴰ b (rowVertices m c) → T a b ≤ T a g + T g b
+
+module _ (m : Map) (net : Net m) (tree : Tree m) (p c : ℕ) (hc : List·Memᴰ c (children m p)) (T : ℕ → ℕ → ℕ) (E : Entered m c T) where
+  pub entered-least : (a b w : ℕ) → List·Memᴰ a (rowVertices m c) → List·Memᴰ b (rowVertices m c) → Walk m a b w → T a b ≤ w
+  entered-least a b w ha hb walk =
+      ⊎-elim
+      (λ k. E .inner a b w ha hb k)
+      (λ out.
+      let hg = boundary-row m net tree p c (out .gate) hc (out .is-boundary) in
+      ⊎-elim
+      (λ k. omega (arith, E .inner a b (out .ahead + out .behind) ha hb (inner-joined (out .inside) k), out .adds))
+      (λ back.
+      let hh = boundary-row m net tree p c (back .gate) hc (back .is-boundary) in
+      omega (
+        arith,
+        E .tried a (out .gate) b ha (out .is-boundary) hb,
+        E .tried (out .gate) (back .gate) b hg (back .is-boundary) hb,
+        E .inner a (out .gate) (out .ahead) ha hg (out .inside),
+        E .between (out .gate) (back .gate) (back .ahead) (out .is-boundary) (back .is-boundary) (back .reaches),
+        E .inner (back .gate) b (back .behind) hh hb (back .inside),
+        out .adds,
+        back .adds,
+      ))
+      (cut-last m net c (row-held m net tree c b hb) (out .goes-on)))
+      (cut-first m net c (row-held m net tree c a ha) walk)

@@ -1,0 +1,2 @@
+-- Walks that stay inside a part.
+pub mod Inner

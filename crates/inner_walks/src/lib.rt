@@ -1,0 +1,1 @@
+// Walks inside a part: definitions and laws only.

@@ -1,0 +1,2 @@
+-- What lent words and bytes show of a map.
+pub mod Shown

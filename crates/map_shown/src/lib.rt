@@ -1,0 +1,1 @@
+// What lent words and bytes show of a map: definitions only.

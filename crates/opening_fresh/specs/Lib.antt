@@ -1,0 +1,2 @@
+-- The records of an empty fleet.
+pub mod Fresh

@@ -1,0 +1,1 @@
+// What the memory of an empty fleet shows: definitions only.

@@ -1,0 +1,43 @@
+-- `write_given` measures the map and writes its sections.
+-- Assumes nothing.
+use native.Mathlib.Omega.{arith}
+use Rattle.opening_map.proofs.Given.{shown-by, all-long, all-same, zeros-all}
+use borrow.Author.Needs.{needs}
+use Rattle.opening_map.proofs.write_given.Statement.{statement}
+use Rattle.opening_map.proofs.write_given.Tie as tie
+
+measure-requires : tie.Need-measure-requires
+measure-requires c κs = (omega arith, all-long 4096 65535, all-same 4096 65535, all-long 512 0, zeros-all 512)
+
+slice-aggregate-write-sections : tie.Need-slice-aggregate-write-sections
+slice-aggregate-write-sections c = search needs
+
+slice-aggregate-write-sections-2 : tie.Need-slice-aggregate-write-sections-2
+slice-aggregate-write-sections-2 c = search needs
+
+write-sections-requires : tie.Need-write-sections-requires
+write-sections-requires c κs = search needs
+
+same-length : tie.Need-same-length
+same-length c = search needs
+
+returns : tie.Need-returns
+returns c =
+    let args = c .before .before .before .before .before .before .before .before .before .before .before .before .before .args in
+    let measure = c .before .before .before .before .before .before .measure in
+    let write-sections = c .before .before .write-sections in
+    λ m given is-sound counted long.
+    let measured = measure .ensures .2 m (args .counts .parts) given in
+    write-sections .ensures m
+    (shown-by m (args .parents .now) (args .leaves .now) (args .body .now) _ _ (args .counts .vertices) (args .counts .roads) (args .counts .parts) (args .used) given is-sound counted (measured .0) (measured .1)) long
+
+pub write-given-spec : {M : Type 1} → statement M
+write-given-spec =
+    tie.close
+    (tie.spec
+    measure-requires
+    slice-aggregate-write-sections
+    slice-aggregate-write-sections-2
+    write-sections-requires
+    same-length
+    returns)

@@ -1,0 +1,2 @@
+-- The counts of a map and its need.
+pub mod Counted

@@ -1,0 +1,2 @@
+-- What stands of the parts.
+pub mod Parts

@@ -1,0 +1,2 @@
+-- What stands of the roads.
+pub mod Roads

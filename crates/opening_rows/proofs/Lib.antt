@@ -1,0 +1,4 @@
+-- Laws that the crates above cite.
+pub mod Places
+mod Way
+mod Step

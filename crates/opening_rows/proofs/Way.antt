@@ -1,0 +1,158 @@
+-- The way up from a vertex's leaf, by the lift: which part is next, and where the vertex's rows end.
+-- Assumes nothing.
+use mathlib.Core.Path.{_≡_, refl, ap, sym, subst, subst⁻¹, _∙_}
+use mathlib.Core.Logic.{_≢_}
+use mathlib.Core.Bool.{Bool, true, false, _&&_, cond, true≢false}
+use mathlib.Core.List.{List, [], _∷_, List·Memᴰ, List·Memᴰ·head}
+use Prim.Native.Nat.{ℕ, suc, _+_, _≤_, _<_}
+use native.Mathlib.Decide.{ℕ-discrete}
+use native.Mathlib.Omega.{arith}
+use lib.Dec.{eqb, ltb}
+use borrow.Author.Tests.{eqb-true, eq-eqb, ltb-true, lt-ltb}
+use Rattle.words.specs.Limits.{mostParts}
+use Rattle.words.specs.Lists.{any, keep, firstOr}
+use Rattle.words.proofs.Tests.{both-true, both-pass}
+use Rattle.words.proofs.Lists.{any-by, any-says, keep-says}
+use Rattle.roads.specs.Map.{Map, partCount}
+use Rattle.parts.specs.Tree.{parentOf, leafOf, holds, children, childOf, isLeaf}
+use Rattle.parts.specs.Border.{boundary}
+use Rattle.parts.proofs.Tree.{Above, here, up, Falls, above-least, holds-above, holds-parent}
+use Rattle.parts.proofs.Way.{in-own-leaf}
+use Rattle.parts.proofs.Down.{Tree, boundary-inside, children-says, children-has, leaf-childless, child-found}
+use Rattle.roads.proofs.Trail.{Net}
+use Rattle.image.specs.Places.{itselfAt, rowAt}
+use Rattle.image.specs.Image.{partBelow, rowBelow}
+use Rattle.opening_rows.specs.Rows.{hasRow}
+
+-- two parts on the way up: the one with the lower number lies above the other
+above-chain : (m : Map) → Falls m → {q p : ℕ} (x : ℕ) → x < partCount m → Above m q x → Above m p x → q ≤ p → Above m q p
+above-chain m falls x hx a here le = a
+above-chain m falls x hx here (up root rest) le =
+    let less = falls x (omega (arith, root)) hx in
+    absurd (omega (arith, less, above-least m falls (parentOf m x) (omega (arith, less)) rest))
+above-chain m falls x hx (up root rest) (up root′ rest′) le = above-chain m falls (parentOf m x) (omega (arith, falls x (omega (arith, root)) hx)) rest rest′ le
+
+-- a part above another and not the same is above the other's parent
+above-next : (m : Map) {q : ℕ} (p : ℕ) → Above m q p → q ≢ p → (p ≢ 0) × Above m q (parentOf m p)
+above-next m p here other = absurd (other refl)
+above-next m p (up root rest) other = (root, rest)
+
+-- the part further down is a part
+pub below-small : (m : Map) (p v : ℕ) → partCount m ≤ mostParts → Tree m → partBelow m p v < 65536
+unfolding partBelow childOf
+below-small m p v few tree = by (isLeaf m p) (keep (λ c. holds m c v) (children m p)) refl
+  where
+    from : (cs : List ℕ) → keep (λ c. holds m c v) (children m p) ≡ cs → firstOr 0 cs < 65536
+    from [] e = omega arith
+    from (c ∷ cs) e =
+        let kept = keep-says (λ k. holds m k v) (children m p) c (subst⁻¹ (λ (l : List ℕ). List·Memᴰ c l) e (List·Memᴰ·head refl)) in
+        omega (arith, children-says m p c (kept .0) .0)
+
+    by : (leaf : Bool) (cs : List ℕ) → keep (λ c. holds m c v) (children m p) ≡ cs → cond leaf 0 (firstOr 0 cs) < 65536
+    by true cs e = omega arith
+    by false cs e = from cs e
+
+module _ (m : Map) (net : Net m) (tree : Tree m) (v : ℕ) (hv : v < m .vertices) where
+  leaf-in : leafOf m v < partCount m
+  leaf-in = tree .leaf-part v hv
+
+  pub row-in-leaf : hasRow m (leafOf m v) v ≡ true
+  unfolding hasRow
+  row-in-leaf = ap (λ (b : Bool). cond b (eqb (leafOf m v) (leafOf m v)) (any (λ c. boundary m c v) (children m (leafOf m v)))) (tree .leaf-leaf v hv) ∙ eq-eqb (leafOf m v) (leafOf m v) refl
+
+  pub leaf-below : (partBelow m (leafOf m v) v ≡ 0) × (rowBelow m (leafOf m v) v ≡ itselfAt m v)
+  unfolding partBelow rowBelow
+  leaf-below = (
+    ap (λ (b : Bool). cond b 0 (childOf m (leafOf m v) v)) (tree .leaf-leaf v hv),
+    ap (λ (b : Bool). cond b (itselfAt m v) (rowAt m (childOf m (leafOf m v) v) v)) (tree .leaf-leaf v hv),
+  )
+
+  -- a part with a row is the leaf, or has a child of which v is boundary
+  data RowAt (q : ℕ) : Type 0 where
+    own : q ≡ leafOf m v → RowAt q
+    edge : (c : ℕ) → List·Memᴰ c (children m q) → boundary m c v ≡ true → RowAt q
+
+  row-at : (q : ℕ) → hasRow m q v ≡ true → RowAt q
+  unfolding hasRow
+  row-at q e = by (isLeaf m q) e
+    where
+      by : (leaf : Bool) → cond leaf (eqb (leafOf m v) q) (any (λ c. boundary m c v) (children m q)) ≡ true → RowAt q
+      by true e = own (sym (eqb-true (leafOf m v) q e))
+      by false e = let found = any-says (λ c. boundary m c v) (children m q) e in edge (found .0) (found .1) (found .2)
+
+  -- it holds the vertex
+  pub row-holds : (q : ℕ) → hasRow m q v ≡ true → holds m q v ≡ true
+  row-holds q e = by (row-at q e)
+    where
+      by : RowAt q → holds m q v ≡ true
+      by (own same) = subst⁻¹ (λ (k : ℕ). holds m k v ≡ true) same (in-own-leaf m v hv)
+      by (edge c hc b) =
+          let child = children-says m q c hc in
+          subst (λ (k : ℕ). holds m k v ≡ true) (child .1) (holds-parent m (tree .falls) v leaf-in c (child .2) (boundary-inside m c v b))
+
+  -- a part that holds v and has a lower number than another that does is at most the other's parent
+  pub no-later : (p q : ℕ) → holds m p v ≡ true → holds m q v ≡ true → q < p → q ≤ parentOf m p
+  no-later p q hp hq less =
+      let above-p = holds-above m (tree .falls) v leaf-in p hp in
+      let above-q = holds-above m (tree .falls) v leaf-in q hq in
+      let in-range = above-least m (tree .falls) (leafOf m v) leaf-in above-p in
+      let next = above-next m p (above-chain m (tree .falls) (leafOf m v) leaf-in above-q above-p (omega arith)) (λ same. omega arith) in
+      let lower = tree .falls p (omega (arith, next .0)) (omega (arith, in-range, leaf-in)) in
+      above-least m (tree .falls) (parentOf m p) (omega (arith, lower, in-range, leaf-in)) (next .1)
+
+  pub row-part : (q : ℕ) → hasRow m q v ≡ true → q ≤ leafOf m v
+  row-part q e = above-least m (tree .falls) (leafOf m v) leaf-in (holds-above m (tree .falls) v leaf-in q (row-holds q e))
+
+  module _ (lift : ℕ) (lifted : (c : ℕ) → c < partCount m → boundary m c v ≡ (holds m c v && ltb lift c)) (p : ℕ) (here-p : holds m p v ≡ true) where
+    p-in : p < partCount m
+    p-in = omega (arith, leaf-in, above-least m (tree .falls) (leafOf m v) leaf-in (holds-above m (tree .falls) v leaf-in p here-p))
+
+    -- above the lift v has a row in the parent, and comes to it from p
+    module _ (higher : lift < p) where
+      real : p ≢ 0
+      real none = omega (arith, higher)
+
+      child : List·Memᴰ p (children m (parentOf m p))
+      child = children-has m (parentOf m p) p p-in refl real
+
+      edge-p : boundary m p v ≡ true
+      edge-p = lifted p p-in ∙ both-pass (holds m p v) (ltb lift p) here-p (lt-ltb lift p higher)
+
+      not-leaf : isLeaf m (parentOf m p) ≡ false
+      not-leaf = by (isLeaf m (parentOf m p)) refl
+        where
+          by : (b : Bool) → isLeaf m (parentOf m p) ≡ b → b ≡ false
+          by true e = absurd (leaf-childless m (parentOf m p) p e child)
+          by false e = refl
+
+      pub parent-lower : parentOf m p < p
+      parent-lower = tree .falls p (omega (arith, higher)) p-in
+
+      pub parent-row : hasRow m (parentOf m p) v ≡ true
+      unfolding hasRow
+      parent-row =
+          ap (λ (b : Bool). cond b (eqb (leafOf m v) (parentOf m p)) (any (λ c. boundary m c v) (children m (parentOf m p)))) not-leaf
+          ∙ any-by (λ c. boundary m c v) (children m (parentOf m p)) p child edge-p
+
+      pub parent-holds : holds m (parentOf m p) v ≡ true
+      parent-holds = holds-parent m (tree .falls) v leaf-in p real here-p
+
+      pub parent-below : (partBelow m (parentOf m p) v ≡ p) × (rowBelow m (parentOf m p) v ≡ rowAt m p v)
+      unfolding partBelow rowBelow
+      parent-below =
+          let found : childOf m (parentOf m p) v ≡ p = child-found m net tree (parentOf m p) p v hv child here-p in (
+            ap (λ (b : Bool). cond b 0 (childOf m (parentOf m p) v)) not-leaf ∙ found,
+            ap (λ (b : Bool). cond b (itselfAt m v) (rowAt m (childOf m (parentOf m p) v) v)) not-leaf ∙ ap (λ (c : ℕ). rowAt m c v) found,
+          )
+
+    -- from the lift on v has no row in a part further up
+    pub no-more : p ≤ lift → (q : ℕ) → q < p → hasRow m q v ≡ true → ⊥
+    no-more low q less e = by (row-at q e)
+      where
+        by : RowAt q → ⊥
+        by (own same) = omega (arith, above-least m (tree .falls) (leafOf m v) leaf-in (holds-above m (tree .falls) v leaf-in p here-p), same)
+        by (edge c hc b) =
+            let child = children-says m q c hc in
+            let split = both-true (holds m c v) (ltb lift c) (sym (lifted c (child .0)) ∙ b) in
+            let above = ltb-true lift c (split .1) in
+            omega (arith, above, no-later c p (split .0) here-p (omega (arith, above)), child .1)

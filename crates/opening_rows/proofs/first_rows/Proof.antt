@@ -1,0 +1,90 @@
+-- `first_rows` reads the parts' records one after the other.
+-- Assumes nothing.
+use mathlib.Core.Path.{_≡_, refl, subst, _∙_}
+use Prim.Native.Nat.{ℕ, _-_, _≤_}
+use native.Mathlib.Omega.{arith}
+use lib.ListN.{length}
+use borrow.Author.Needs.{needs}
+use Rattle.opening_rows.specs.Rows.{FirstRows}
+use Rattle.opening_rows.proofs.Step.{first-none, first-more}
+use Rattle.opening_rows.proofs.first_rows.Statement.{statement}
+use Rattle.opening_rows.proofs.first_rows.Tie as tie
+
+abbrev Inv-loop : tie.InvT-loop
+Inv-loop mem parts cursors₀ p₀ cursors p = (p ≤ parts) × FirstRows mem p cursors₀ cursors
+
+abbrev μ-loop : tie.MeasureT-loop
+μ-loop mem parts cursors₀ p₀ cursors p = parts - p
+
+loop-holds : tie.Need-loop-holds Inv-loop μ-loop
+loop-holds c =
+    let args = c .before .before .args in
+    (omega arith, first-none (args .mem .now) (args .cursors .now))
+
+wide-requires : tie.Need-wide-requires Inv-loop μ-loop
+wide-requires c κs = search needs
+
+mul-wide : tie.Need-mul-wide Inv-loop μ-loop
+mul-wide c = omega arith
+
+add-wide : tie.Need-add-wide Inv-loop μ-loop
+add-wide c = omega arith
+
+add-wide-2 : tie.Need-add-wide-2 Inv-loop μ-loop
+add-wide-2 c = omega arith
+
+wide-requires-2 : tie.Need-wide-requires-2 Inv-loop μ-loop
+wide-requires-2 c κs = search needs
+
+word-requires : tie.Need-word-requires Inv-loop μ-loop
+word-requires c κs = search needs
+
+put-requires : tie.Need-put-requires Inv-loop μ-loop
+put-requires c κs = search needs
+
+add-p : tie.Need-add-p Inv-loop μ-loop
+add-p c = omega arith
+
+loop-less : tie.Need-loop-less Inv-loop μ-loop
+loop-less c = omega arith
+
+loop-again : tie.Need-loop-again Inv-loop μ-loop
+loop-again c =
+    let args = c .before .before .before .before .before .before .before .before .before .before .before .args in
+    let loop = c .before .before .before .before .before .before .before .before .loop in
+    let loop-test = c .before .before .before .before .before .before .before .loop-test in
+    let wide = c .before .before .before .before .before .wide in
+    let wide2 = c .before .before .before .before .wide2 in
+    let word = c .before .before .before .word in
+    let put = c .before .before .put in
+    (omega (arith, loop-test .taken), first-more (args .mem .now) (args .cursors .now) (loop .cursors) _ (loop .p) _ _ _ (loop .inv .1) (wide .ensures) (wide2 .ensures) (word .ensures) (put .ensures))
+
+same-length : tie.Need-same-length Inv-loop μ-loop
+same-length c = c .before .loop .inv .1 .long
+
+returns : tie.Need-returns Inv-loop μ-loop
+returns c =
+    let args = c .before .before .before .before .args in
+    let loop = c .before .loop in
+    let loop-test = c .loop-test in
+    subst (λ (k : ℕ). FirstRows (args .mem .now) k (args .cursors .now) (loop .cursors)) (omega (arith, loop-test .left, loop .inv .0)) (loop .inv .1)
+
+pub first-rows-spec : {M : Type 1} → statement M
+first-rows-spec =
+    tie.close
+    (tie.spec
+    Inv-loop
+    μ-loop
+    loop-holds
+    wide-requires
+    mul-wide
+    add-wide
+    add-wide-2
+    wide-requires-2
+    word-requires
+    put-requires
+    add-p
+    loop-less
+    loop-again
+    same-length
+    returns)

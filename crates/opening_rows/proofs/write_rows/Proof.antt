@@ -1,0 +1,114 @@
+-- `write_rows` writes the rows of each vertex after those of the vertices below it.
+-- Assumes nothing.
+use mathlib.Core.Path.{_≡_, refl, ap, subst, _∙_}
+use mathlib.Core.Bool.{true}
+use Prim.Native.Nat.{ℕ, _-_, _≤_}
+use native.Mathlib.Omega.{arith}
+use lib.ListN.{length, getD}
+use borrow.Author.Needs.{needs}
+use Rattle.roads.specs.Map.{Map}
+use Rattle.opening_rows.specs.Rows.{Ready, RowsStand}
+use Rattle.opening_rows.proofs.Step.{rows-none, standing, next-vertex}
+use Rattle.opening_rows.proofs.write_rows.Statement.{statement}
+use Rattle.opening_rows.proofs.write_rows.Tie as tie
+
+abbrev Inv-loop : tie.InvT-loop
+Inv-loop parents leaves lifts vertices base cursors₀ mem₀ v₀ cursors mem v =
+    (v ≤ vertices)
+    × (length cursors ≡ length cursors₀)
+    × (length mem ≡ length mem₀)
+    × ((m : Map) → Ready m parents leaves lifts vertices base cursors₀ mem₀ → RowsStand m v (λ q. true) mem₀ cursors mem)
+
+abbrev μ-loop : tie.MeasureT-loop
+μ-loop parents leaves lifts vertices base cursors₀ mem₀ v₀ cursors mem v = vertices - v
+
+loop-holds : tie.Need-loop-holds Inv-loop μ-loop
+loop-holds c =
+    let args = c .before .before .before .before .before .args in
+    (omega arith, refl, refl, λ m ready. rows-none m (args .parents .now) (args .leaves .now) (args .lifts .now) (args .vertices) (args .base) (args .cursors .now) (args .mem .now) ready)
+
+wide-requires : tie.Need-wide-requires Inv-loop μ-loop
+wide-requires c κs = search needs
+
+word-requires : tie.Need-word-requires Inv-loop μ-loop
+word-requires c κs = search needs
+
+wide-requires-2 : tie.Need-wide-requires-2 Inv-loop μ-loop
+wide-requires-2 c κs = search needs
+
+word-requires-2 : tie.Need-word-requires-2 Inv-loop μ-loop
+word-requires-2 c κs = search needs
+
+mul-climb : tie.Need-mul-climb Inv-loop μ-loop
+mul-climb c = omega arith
+
+add-climb : tie.Need-add-climb Inv-loop μ-loop
+add-climb c = omega arith
+
+add-climb-2 : tie.Need-add-climb-2 Inv-loop μ-loop
+add-climb-2 c = omega arith
+
+climb-requires : tie.Need-climb-requires Inv-loop μ-loop
+climb-requires c κs = search needs
+
+add-v : tie.Need-add-v Inv-loop μ-loop
+add-v c = omega arith
+
+loop-less : tie.Need-loop-less Inv-loop μ-loop
+loop-less c = omega arith
+
+loop-again : tie.Need-loop-again Inv-loop μ-loop
+loop-again c =
+    let args = c .before .before .before .before .before .before .before .before .before .before .before .before .before .before .before .before .before .before .args in
+    let loop = c .before .before .before .before .before .before .before .before .before .before .before .before .loop in
+    let loop-test = c .before .before .before .before .before .before .before .before .before .before .before .loop-test in
+    let wide = c .before .before .before .before .before .before .before .before .before .before .wide in
+    let word = c .before .before .before .before .before .before .before .before .before .word in
+    let wide2 = c .before .before .before .before .before .before .before .before .wide2 in
+    let word2 = c .before .before .before .before .before .before .before .word2 in
+    let climb = c .before .before .before .before .climb in (
+      omega (arith, loop-test .taken),
+      climb .kept .1 .1 .1 .1 .1 .0 ∙ loop .inv .1,
+      climb .kept .1 .1 .1 .1 .1 .1 .0 ∙ loop .inv .2,
+      λ m ready.
+          next-vertex m (loop .v) (args .mem .now) _ _
+          (climb .ensures m (args .mem .now)
+          (standing m (args .parents .now) (args .leaves .now) (args .lifts .now) (args .vertices) (args .base) (args .cursors .now) (args .mem .now) ready (loop .v) _ _ _ (loop-test .taken) (word .ensures ∙ ap (λ (i : ℕ). getD (args .leaves .now) i 0) (wide .ensures))
+          (word2 .ensures ∙ ap (λ (i : ℕ). getD (args .lifts .now) i 0) (wide2 .ensures)) refl)
+          (loop .inv .3 m ready)),
+    )
+
+same-length : tie.Need-same-length Inv-loop μ-loop
+same-length c = c .before .loop .inv .1
+
+same-length-2 : tie.Need-same-length-2 Inv-loop μ-loop
+same-length-2 c = c .before .loop .inv .2
+
+returns : tie.Need-returns Inv-loop μ-loop
+returns c =
+    let args = c .before .before .before .before .before .before .before .args in
+    let loop = c .before .loop in
+    let loop-test = c .loop-test in
+    λ m ready. subst (λ (k : ℕ). RowsStand m k (λ q. true) (args .mem .now) (loop .cursors) (loop .mem)) (omega (arith, loop-test .left, loop .inv .0)) (loop .inv .3 m ready)
+
+pub write-rows-spec : {M : Type 1} → statement M
+write-rows-spec =
+    tie.close
+    (tie.spec
+    Inv-loop
+    μ-loop
+    loop-holds
+    wide-requires
+    word-requires
+    wide-requires-2
+    word-requires-2
+    mul-climb
+    add-climb
+    add-climb-2
+    climb-requires
+    add-v
+    loop-less
+    loop-again
+    same-length
+    same-length-2
+    returns)

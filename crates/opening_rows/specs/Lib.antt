@@ -1,0 +1,2 @@
+-- What stands of the rows.
+pub mod Rows

@@ -1,0 +1,2 @@
+-- The sections together.
+pub mod Sections

@@ -1,0 +1,55 @@
+-- The memory of an accepted map but for its distance tables.
+use mathlib.Core.Path.{_≡_}
+use mathlib.Core.Bool.{true}
+use mathlib.Core.List.{List, [], _∷_}
+use Prim.Native.Nat.{ℕ, _+_, _*_, _≤_, _<_}
+use lib.ListN.{length, replicate}
+use Rattle.words.specs.Limits.{headMark}
+use Rattle.words.specs.Lists.{word}
+use Rattle.roads.specs.Map.{Map, partCount, roadCount}
+use Rattle.parts.specs.Size.{sizeOf, need}
+use Rattle.maps.specs.Sound.{Sound}
+use Rattle.fleet.specs.State.{freshState}
+use Rattle.image.specs.Places.{verticesAt, roadsAt, tablesAt, firstRowOf}
+use Rattle.image.specs.Image.{image}
+use Rattle.image.specs.Records.{roadRecord}
+use Rattle.map_shown.specs.Shown.{ShowsParents, ShowsLeaves, ShowsRoads, ShowsSizes, ShowsLifts}
+use Rattle.records.specs.Written.{Written}
+use Rattle.records.specs.Agrees.{Agrees}
+use Rattle.opening_fresh.specs.Fresh.{freshVertex}
+use Rattle.opening_rows.specs.Rows.{RowsStand}
+
+-- mark, words used, vertices, roads, parts, change count; the rest of the head is 0
+unfoldable pub headWords : ℕ → ℕ → ℕ → ℕ → ℕ → List ℕ
+headWords used vertices roads parts count = headMark ∷ used ∷ vertices ∷ roads ∷ parts ∷ count ∷ replicate 58 0
+
+-- m is sound, has these counts and this need, and what is lent shows it
+pub record Shown (m : Map) (parents leaves body lifts sizes : List ℕ) (vertices roads parts used : ℕ) : Type 0 where
+  pub sound : Sound m
+  pub vertex-count : vertices ≡ m .vertices
+  pub road-count : roads ≡ roadCount m
+  pub part-count : parts ≡ partCount m
+  pub need-is : used ≡ need m
+  pub parents-shown : ShowsParents m parents
+  pub leaves-shown : ShowsLeaves m leaves
+  pub roads-shown : ShowsRoads m body
+  pub lifts-shown : ShowsLifts m lifts
+  pub sizes-shown : ShowsSizes m sizes
+
+-- the roads are written, and then the vertices
+pub record NetStands (m : Map) (before after : List ℕ) : Type 0 where
+  pub between : List ℕ
+  pub roads : Written (roadsAt m) 4 0 (roadCount m) (roadRecord m) before between
+  pub vertices : Written (verticesAt m) 8 0 (m .vertices) (freshVertex m) between after
+
+-- the rows of all vertices are written
+pub record RowsDone (m : Map) (before after : List ℕ) : Type 0 where
+  pub cursors : List ℕ
+  pub rows : RowsStand m (m .vertices) (λ q. true) before cursors after
+
+-- every word of the image stands but those of the tables
+pub record Sections (m : Map) (start : ℕ) (mem : List ℕ) : Type 0 where
+  pub long : length mem ≡ need m
+  pub front : Agrees (image m (freshState start)) 0 (tablesAt m) mem
+  pub rows : (p i w : ℕ) → p < partCount m → i < sizeOf m p → w < 4
+      → word mem (firstRowOf m p + 4 * i + w) ≡ word (image m (freshState start)) (firstRowOf m p + 4 * i + w)

@@ -1,0 +1,110 @@
+// All sections of the memory of an accepted map but the distance tables: each by its own function, in words that no other writes.
+use counts::Counts;
+use head::HEAD_MARK;
+use opening_parts::rows_begin;
+use opening_parts::write_parts;
+use opening_roads::write_roads;
+use opening_rows::first_rows;
+use opening_rows::write_rows;
+use opening_vertices::write_vertices;
+use records::clear;
+use records::put4;
+ghost use mathlib.Core.Path.{_≡_};
+ghost use mathlib.Core.List.{List};
+ghost use Prim.Native.Nat.{ℕ, _+_, _*_, _<_, _≤_};
+ghost use lib.ListN.{length};
+ghost use lib.Seq.{sets};
+ghost use Rattle.words.specs.Lists.{word};
+ghost use Rattle.roads.specs.Map.{Map, partCount};
+ghost use Rattle.image.specs.Places.{firstRowOf};
+ghost use Rattle.opening_parts.specs.Parts.{PartsStand};
+ghost use Rattle.opening_sections.specs.Sections.{headWords, Shown, NetStands, RowsDone, Sections};
+
+// Mark, words used, vertices, roads, parts, change count.
+fn write_head(mem: &mut [u32], used: u32, counts: Counts, start: u32)
+    ensures { λ _. ⌜ now (mem .exit) ≡ sets (now (mem .entry)) 0 (headWords used (counts .vertices) (counts .roads) (counts .parts) start) ⌝ }
+{
+    put4(mem, 0, HEAD_MARK, used, counts.vertices, counts.roads);
+    put4(mem, 4, counts.parts, start, 0, 0);
+    clear(mem, 8, 56);
+}
+
+fn write_part_section(parents: &[u32], sizes: &[u32], parts: u32, used: u32, mem: &mut [u32])
+    requires { ⌜ parts ≤ 512 ⌝ }
+    ensures { λ _. ⌜ ((m : Map) (leaves body lifts : List ℕ) (vertices roads : ℕ) → Shown m (now (parents .entry)) leaves body lifts (now (sizes .entry)) vertices roads parts used → length (now (mem .entry)) ≡ used → PartsStand m 0 (now (mem .entry)) (now (mem .exit))) ⌝ }
+{
+    let tables_end = rows_begin(sizes, parts, used);
+    let mut children: [u32; 512] = [0; 512];
+    write_parts(parents, sizes, parts, tables_end, used, &mut children, mem);
+}
+
+// The roads and the vertices, which show the first road into each.
+fn write_net(leaves: &[u32], body: &[u8], vertices: u32, roads: u32, parts: u32, mem: &mut [u32])
+    requires { ⌜ (vertices ≤ 4096) × (roads ≤ 16384) × (parts ≤ 512) ⌝ }
+    ensures { λ _. ⌜ ((m : Map) (parents lifts sizes : List ℕ) (used : ℕ) → Shown m parents (now (leaves .entry)) (now (body .entry)) lifts sizes vertices roads parts used → length (now (mem .entry)) ≡ used → NetStands m (now (mem .entry)) (now (mem .exit))) ⌝ }
+{
+    let vertices_at = 64 + 8 * parts;
+    let mut ins: [u32; 4096] = [0; 4096];
+    write_roads(body, roads, vertices_at + 8 * vertices, &mut ins, mem);
+    let mut places: [u32; 512] = [0; 512];
+    write_vertices(
+        leaves,
+        body,
+        roads,
+        vertices,
+        vertices_at,
+        &ins,
+        &mut places,
+        mem,
+    );
+}
+
+fn write_row_section(
+    parents: &[u32],
+    leaves: &[u32],
+    lifts: &[u32],
+    vertices: u32,
+    parts: u32,
+    mem: &mut [u32],
+)
+    requires { ⌜ (vertices ≤ 4096) × (parts ≤ 512) ⌝ }
+    ensures { λ _. ⌜ ((m : Map) (body sizes : List ℕ) (roads used : ℕ) → used < 4294967296 → Shown m (now (parents .entry)) (now (leaves .entry)) body (now (lifts .entry)) sizes vertices roads parts used → length (now (mem .entry)) ≡ used → ((p : ℕ) → p < partCount m → word (now (mem .entry)) (64 + 8 * p + 2) ≡ firstRowOf m p) → RowsDone m (now (mem .entry)) (now (mem .exit))) ⌝ }
+{
+    let mut cursors: [u32; 512] = [0; 512];
+    first_rows(mem, parts, &mut cursors);
+    write_rows(
+        parents,
+        leaves,
+        lifts,
+        vertices,
+        64 + 8 * parts,
+        &mut cursors,
+        mem,
+    );
+}
+
+// The parents of the parts, the leaves and lifts of the vertices, the body of the roads' record and the sizes of the parts show the map; the memory has
+// as many words as it needs.
+pub fn write_sections(
+    parents: &[u32],
+    leaves: &[u32],
+    body: &[u8],
+    lifts: &[u32],
+    sizes: &[u32],
+    counts: Counts,
+    used: u32,
+    start: u32,
+    mem: &mut [u32],
+)
+    requires { ⌜ (counts .vertices ≤ 4096) × (counts .roads ≤ 16384) × (counts .parts ≤ 512) ⌝ }
+    ensures { λ _. ⌜ ((m : Map) → Shown m (now (parents .entry)) (now (leaves .entry)) (now (body .entry)) (now (lifts .entry)) (now (sizes .entry)) (counts .vertices) (counts .roads) (counts .parts) used → length (now (mem .entry)) ≡ used → Sections m start (now (mem .exit))) ⌝ }
+{
+    let vertices = counts.vertices;
+    let roads = counts.roads;
+    let parts = counts.parts;
+    write_head(mem, used, counts, start);
+    write_part_section(parents, sizes, parts, used, mem);
+    write_net(leaves, body, vertices, roads, parts, mem);
+    clear(mem, 64 + 8 * parts + 8 * vertices + 4 * roads, 8192);
+    write_row_section(parents, leaves, lifts, vertices, parts, mem);
+}

@@ -1,0 +1,122 @@
+-- `write_vertices` writes each vertex after those below it.
+-- Assumes nothing.
+use mathlib.Core.Path.{_≡_, refl, ap, subst, _∙_}
+use Prim.Native.Nat.{ℕ, _-_, _≤_}
+use native.Mathlib.Omega.{arith}
+use lib.ListN.{length, getD}
+use borrow.Author.Needs.{needs}
+use Rattle.roads.specs.Map.{Map}
+use Rattle.image.specs.Places.{verticesAt}
+use Rattle.records.proofs.Written.{written-none}
+use Rattle.opening_fresh.specs.Fresh.{freshVertex}
+use Rattle.opening_vertices.specs.Vertices.{Ready, VerticesStand}
+use Rattle.opening_vertices.proofs.Step.{Taken, taken-none, taken-more, vertices-more}
+use Rattle.opening_vertices.proofs.write_vertices.Statement.{statement}
+use Rattle.opening_vertices.proofs.write_vertices.Tie as tie
+
+abbrev Inv-loop : tie.InvT-loop
+Inv-loop leaves body roads vertices base ins places₀ mem₀ road₀ v₀ places mem road v =
+    (v ≤ vertices)
+    × (length places ≡ length places₀)
+    × (length mem ≡ length mem₀)
+    × ((m : Map) → Ready m leaves body roads vertices base ins places₀ mem₀ → Taken m v places road × VerticesStand m v mem₀ mem)
+
+abbrev μ-loop : tie.MeasureT-loop
+μ-loop leaves body roads vertices base ins places₀ mem₀ road₀ v₀ places mem road v = vertices - v
+
+loop-holds : tie.Need-loop-holds Inv-loop μ-loop
+loop-holds c =
+    let args = c .before .before .before .before .before .args in
+    (omega arith, refl, refl, λ m ready. (taken-none m (args .leaves .now) (args .body .now) (args .roads) (args .vertices) (args .base) (args .ins .now) (args .places .now) (args .mem .now) ready, written-none (verticesAt m) 8 (freshVertex m) 0 (args .mem .now)))
+
+skip-requires : tie.Need-skip-requires Inv-loop μ-loop
+skip-requires c κs = search needs
+
+wide-requires : tie.Need-wide-requires Inv-loop μ-loop
+wide-requires c κs = search needs
+
+word-requires : tie.Need-word-requires Inv-loop μ-loop
+word-requires c κs = search needs
+
+next-place-requires : tie.Need-next-place-requires Inv-loop μ-loop
+next-place-requires c κs = search needs
+
+wide-requires-2 : tie.Need-wide-requires-2 Inv-loop μ-loop
+wide-requires-2 c κs = search needs
+
+word-requires-2 : tie.Need-word-requires-2 Inv-loop μ-loop
+word-requires-2 c κs = search needs
+
+mul-write-vertex : tie.Need-mul-write-vertex Inv-loop μ-loop
+mul-write-vertex c = omega arith
+
+add-write-vertex : tie.Need-add-write-vertex Inv-loop μ-loop
+add-write-vertex c = omega arith
+
+write-vertex-requires : tie.Need-write-vertex-requires Inv-loop μ-loop
+write-vertex-requires c κs = search needs
+
+add-v : tie.Need-add-v Inv-loop μ-loop
+add-v c = omega arith
+
+loop-less : tie.Need-loop-less Inv-loop μ-loop
+loop-less c = omega arith
+
+loop-again : tie.Need-loop-again Inv-loop μ-loop
+loop-again c =
+    let args = c .before .before .before .before .before .before .before .before .before .before .before .before .before .before .before .before .before .before .before .before .args in
+    let loop = c .before .before .before .before .before .before .before .before .before .before .before .before .before .before .loop in
+    let loop-test = c .before .before .before .before .before .before .before .before .before .before .before .before .before .loop-test in
+    let skip = c .before .before .before .before .before .before .before .before .before .before .before .before .skip in
+    let wide = c .before .before .before .before .before .before .before .before .before .before .before .wide in
+    let word = c .before .before .before .before .before .before .before .before .before .before .word in
+    let next-place = c .before .before .before .before .before .before .before .before .next-place in
+    let wide2 = c .before .before .before .before .before .wide2 in
+    let word2 = c .before .before .before .before .word2 in
+    let write-vertex = c .before .before .write-vertex in (
+      omega (arith, loop-test .taken),
+      next-place .kept .0 ∙ loop .inv .1,
+      write-vertex .kept .0 ∙ loop .inv .2,
+      λ m ready. (
+        taken-more m (args .leaves .now) (args .body .now) (args .roads) (args .vertices) (args .base) (args .ins .now) (args .places .now) (args .mem .now) ready (loop .v) (loop .road) _ _ _ _ (loop .places) _ (loop .mem) _ (loop-test .taken) (loop .inv .1) (loop .inv .3 m ready .0) (skip .ensures)
+            (word .ensures ∙ ap (λ (i : ℕ). getD (args .leaves .now) i 0) (wide .ensures)) (next-place .ensures .0) (next-place .ensures .1) (word2 .ensures ∙ ap (λ (i : ℕ). getD (args .ins .now) i 0) (wide2 .ensures)) (write-vertex .ensures),
+        vertices-more m (args .leaves .now) (args .body .now) (args .roads) (args .vertices) (args .base) (args .ins .now) (args .places .now) (args .mem .now) ready (loop .v) (loop .road) _ _ _ _ (loop .places) _ (loop .mem) _ (loop-test .taken) (loop .inv .1) (loop .inv .3 m ready .0) (skip .ensures)
+            (word .ensures ∙ ap (λ (i : ℕ). getD (args .leaves .now) i 0) (wide .ensures)) (next-place .ensures .0) (next-place .ensures .1) (word2 .ensures ∙ ap (λ (i : ℕ). getD (args .ins .now) i 0) (wide2 .ensures)) (write-vertex .ensures) (loop .inv .3 m ready .1),
+      ),
+    )
+
+same-length : tie.Need-same-length Inv-loop μ-loop
+same-length c = c .before .loop .inv .1
+
+same-length-2 : tie.Need-same-length-2 Inv-loop μ-loop
+same-length-2 c = c .before .loop .inv .2
+
+returns : tie.Need-returns Inv-loop μ-loop
+returns c =
+    let args = c .before .before .before .before .before .before .before .args in
+    let loop = c .before .loop in
+    let loop-test = c .loop-test in
+    λ m ready. subst (λ (k : ℕ). VerticesStand m k (args .mem .now) (loop .mem)) (omega (arith, loop-test .left, loop .inv .0)) (loop .inv .3 m ready .1)
+
+pub write-vertices-spec : {M : Type 1} → statement M
+write-vertices-spec =
+    tie.close
+    (tie.spec
+    Inv-loop
+    μ-loop
+    loop-holds
+    skip-requires
+    wide-requires
+    word-requires
+    next-place-requires
+    wide-requires-2
+    word-requires-2
+    mul-write-vertex
+    add-write-vertex
+    write-vertex-requires
+    add-v
+    loop-less
+    loop-again
+    same-length
+    same-length-2
+    returns)

@@ -1,0 +1,2 @@
+-- What stands of the vertices.
+pub mod Vertices

@@ -1,0 +1,87 @@
+-- Gathering the rows whose vertices have a distance, row by row.
+-- Assumes nothing.
+use mathlib.Core.Path.{_≡_, refl, sym, ap, subst, _∙_}
+use mathlib.Core.Logic.{_⊎_, inl, inr}
+use mathlib.Core.List.{List}
+use Prim.Native.Nat.{ℕ, suc, _+_, _*_, _%_, _≤_, _<_, min}
+use native.Mathlib.Decide.{ℕ-discrete}
+use native.Mathlib.Omega.{arith}
+use lib.ListN.{length, set, length-set}
+use lib.Seq.{getD-set-same, getD-set-other}
+use Rattle.words.specs.Limits.{FAR}
+use Rattle.words.specs.Lists.{word}
+use Rattle.part_bounds.specs.Bounds.{ownerAt, nearAt, Gathered, wayIn}
+
+module _ {mem : List ℕ} {first : ℕ} {dx : List ℕ} where
+  pub gathered-none : {places near : List ℕ} → length places ≡ 128 → length near ≡ 128 → Gathered mem first dx 0 places near 0
+  gathered-none p n =
+      record { few = omega arith; places-length = p; near-length = n; all = λ i h. absurd (omega arith); only = λ t h. absurd (omega arith) }
+
+  module _ {i : ℕ} {places near : List ℕ} {count : ℕ} (g : Gathered mem first dx i places near count) {w v wide d : ℕ}
+      (isWord : w ≡ word mem (first + 4 * i + 2)) (isVertex : v ≡ w % 65536) (isWide : wide ≡ v) (isNear : d ≡ word dx wide) where
+    near-is : d ≡ nearAt mem first dx i
+    near-is = isNear ∙ ap (word dx) (isWide ∙ isVertex ∙ ap (λ (n : ℕ). n % 65536) isWord)
+
+    pub gathered-past : FAR ≤ d → Gathered mem first dx (i + 1) places near count
+    gathered-past far =
+        record {
+          few = omega (arith, g .few);
+          places-length = g .places-length;
+          near-length = g .near-length;
+          all = λ j h near-j. before j h near-j (ℕ-discrete j i);
+          only = λ t h. (omega (arith, g .only t h), g .only t h .1);
+        }
+      where
+        before : (j : ℕ) → j < i + 1 → nearAt mem first dx j < FAR → Dec (j ≡ i) → (t : ℕ) × (t < count) × (word places t ≡ j) × (word near t ≡ nearAt mem first dx j)
+        before j h near-j (yes same) = absurd (omega (arith, near-j, ap (nearAt mem first dx) same, near-is))
+        before j h near-j (no other) = g .all j (omega (arith, other)) near-j
+
+    pub gathered-more : {places′ near′ : List ℕ} → d < FAR → i < 128 → places′ ≡ set places count i → near′ ≡ set near count d → Gathered mem first dx (i + 1) places′ near′ (count + 1)
+    gathered-more {places′} {near′} real small isPlaces isNear′ =
+        record {
+          few = omega (arith, g .few);
+          places-length = ap length isPlaces ∙ length-set places count i ∙ g .places-length;
+          near-length = ap length isNear′ ∙ length-set near count d ∙ g .near-length;
+          all = λ j h near-j. found j h near-j (ℕ-discrete j i);
+          only = λ t h. back t h (ℕ-discrete t count);
+        }
+      where
+        new-place : word places′ count ≡ i
+        new-place = ap (λ (l : List ℕ). word l count) isPlaces ∙ getD-set-same places count i 0 (omega (arith, g .few, g .places-length))
+
+        new-near : word near′ count ≡ nearAt mem first dx i
+        new-near = ap (λ (l : List ℕ). word l count) isNear′ ∙ getD-set-same near count d 0 (omega (arith, g .few, g .near-length)) ∙ near-is
+
+        old-place : (t : ℕ) → (t ≡ count → ⊥) → word places′ t ≡ word places t
+        old-place t other = ap (λ (l : List ℕ). word l t) isPlaces ∙ getD-set-other places count t i 0 other
+
+        old-near : (t : ℕ) → (t ≡ count → ⊥) → word near′ t ≡ word near t
+        old-near t other = ap (λ (l : List ℕ). word l t) isNear′ ∙ getD-set-other near count t d 0 other
+
+        found : (j : ℕ) → j < i + 1 → nearAt mem first dx j < FAR → Dec (j ≡ i) → (t : ℕ) × (t < count + 1) × (word places′ t ≡ j) × (word near′ t ≡ nearAt mem first dx j)
+        found j h near-j (yes same) = (count, omega arith, new-place ∙ sym same, new-near ∙ ap (nearAt mem first dx) (sym same))
+        found j h near-j (no other) =
+            let (t, ht, p, n) = g .all j (omega (arith, other)) near-j in
+            let away : t ≡ count → ⊥ = λ e. omega (arith, e, ht) in
+            (t, omega (arith, ht), old-place t away ∙ p, old-near t away ∙ n)
+
+        back : (t : ℕ) → t < count + 1 → Dec (t ≡ count) → (word places′ t < i + 1) × (word near′ t ≡ nearAt mem first dx (word places′ t))
+        back t h (yes same) =
+            let at : word places′ t ≡ i = ap (word places′) same ∙ new-place in
+            (omega (arith, at), ap (word near′) same ∙ new-near ∙ ap (nearAt mem first dx) (sym at))
+        back t h (no other) =
+            let o = g .only t (omega (arith, other)) in
+            (omega (arith, o .0, old-place t other), old-near t other ∙ o .1 ∙ ap (nearAt mem first dx) (sym (old-place t other)))
+
+pub gathered-all : {mem : List ℕ} {first : ℕ} {dx : List ℕ} {i size : ℕ} {places near : List ℕ} {count : ℕ} → Gathered mem first dx i places near count → i ≤ size → size ≤ i
+    → Gathered mem first dx size places near count
+gathered-all {mem} {first} {dx} {i} {size} {places} {near} {count} g low high =
+    let same : i ≡ size = omega arith in
+    subst (λ (n : ℕ). Gathered mem first dx n places near count) same g
+
+-- the next way
+pub way-next : (mem : List ℕ) (at t : ℕ) (places near : List ℕ) {j place table d way : ℕ} → place ≡ word places t → j ≡ place → table ≡ word mem (at + j) → d ≡ word near t
+    → way ≡ min (table + d) 4294967295 → way ≡ min (wayIn mem at places near t) FAR
+unfolding wayIn
+way-next mem at t places near isPlace isWide isTable isNear isWay =
+    isWay ∙ (λ i. min ((isTable ∙ ap (λ (k : ℕ). word mem (at + k)) (isWide ∙ isPlace)) i + isNear i) FAR)

@@ -1,0 +1,6 @@
+-- Laws that the functions and the crates above cite.
+pub mod Gathering
+pub mod Lowering
+pub mod Relaxing
+pub mod Spreading
+pub mod Keys

@@ -1,0 +1,106 @@
+-- Distances made less row by row.
+-- Assumes nothing.
+use mathlib.Core.Path.{_≡_, refl, sym, ap, subst, _∙_}
+use mathlib.Core.Logic.{_⊎_, inl, inr, ⊎-elim}
+use mathlib.Core.List.{List}
+use Prim.Native.Nat.{ℕ, _+_, _*_, _%_, _≤_, _<_}
+use native.Mathlib.Decide.{decLt, ℕ-discrete}
+use native.Mathlib.Nat.{mul-le-mul, le-trans, le-of-lt}
+use native.Mathlib.Omega.{arith}
+use lib.ListN.{length}
+use Rattle.words.specs.Limits.{FAR}
+use Rattle.words.specs.Lists.{word}
+use Rattle.far_sums.specs.Least.{Least}
+use Rattle.part_bounds.specs.Bounds.{ownerAt, nearAt, Gathered, wayIn, lowered, Closer}
+use Rattle.part_bounds.proofs.Lowering.{lowered-length, lowered-no-more, lowered-here, lowered-honest}
+
+module _ {mem : List ℕ} {first table size : ℕ} {dx : List ℕ} where
+  pub closer-none : Closer mem first table size dx 0 dx
+  closer-none =
+      record {
+        same-length = refl;
+        no-more = λ u. omega arith;
+        ways = λ i j h. absurd (omega arith);
+        far = λ i h. absurd (omega arith);
+        honest = λ bound most least ways. least;
+      }
+
+  module _ {places near : List ℕ} {count : ℕ} (g : Gathered mem first dx size places near count) {i : ℕ} {dx′ : List ℕ} (h : i < size) (c : Closer mem first table size dx i dx′)
+      {way w v wide : ℕ} {dx″ : List ℕ} (isWay : Least (wayIn mem (table + size * i) places near) count way)
+      (isWord : w ≡ word mem (first + 4 * i + 2)) (isVertex : v ≡ w % 65536) (isWide : wide ≡ v) (isAfter : dx″ ≡ lowered dx′ wide way) where
+    owner-is : wide ≡ ownerAt mem first i
+    owner-is = isWide ∙ isVertex ∙ ap (λ (n : ℕ). n % 65536) isWord
+
+    after-is : dx″ ≡ lowered dx′ (ownerAt mem first i) way
+    after-is = isAfter ∙ ap (λ (k : ℕ). lowered dx′ k way) owner-is
+
+    way-by : (j : ℕ) → j < size → way ≤ word mem (table + size * i + j) + nearAt mem first dx j
+    unfolding wayIn
+    way-by j hj = by (decLt (nearAt mem first dx j) FAR)
+      where
+        by : Dec (nearAt mem first dx j < FAR) → way ≤ word mem (table + size * i + j) + nearAt mem first dx j
+        by (no far) = omega (arith, far, isWay .most)
+        by (yes close) =
+            let (t, ht, p, n) = g .all j hj close in
+            omega (arith, isWay .below t ht, ap (λ (k : ℕ). word mem (table + size * i + k)) p, n)
+
+    after-word : (u : ℕ) → word dx″ u ≡ word (lowered dx′ (ownerAt mem first i) way) u
+    after-word u = ap (λ (l : List ℕ). word l u) after-is
+
+    pub closer-more : Closer mem first table size dx (i + 1) dx″
+    unfolding wayIn
+    closer-more =
+        record {
+          same-length = ap length after-is ∙ lowered-length dx′ (ownerAt mem first i) way ∙ c .same-length;
+          no-more = λ u. omega (arith, after-word u, lowered-no-more dx′ (ownerAt mem first i) way u, c .no-more u);
+          ways = λ r j hr hj. ways r j hr hj (ℕ-discrete r i);
+          far = λ r hr. far r hr (ℕ-discrete r i);
+          honest = honest;
+        }
+      where
+        here : (r : ℕ) → r ≡ i → word dx″ (ownerAt mem first r) ≤ way
+        here r same = omega (arith, ap (λ (k : ℕ). word dx″ (ownerAt mem first k)) same, after-word (ownerAt mem first i), lowered-here dx′ (ownerAt mem first i) way)
+
+        before : (r : ℕ) → word dx″ (ownerAt mem first r) ≤ word dx′ (ownerAt mem first r)
+        before r = omega (arith, after-word (ownerAt mem first r), lowered-no-more dx′ (ownerAt mem first i) way (ownerAt mem first r))
+
+        ways : (r j : ℕ) → r < i + 1 → j < size → Dec (r ≡ i) → word dx″ (ownerAt mem first r) ≤ word mem (table + size * r + j) + nearAt mem first dx j
+        ways r j hr hj (yes same) = omega (arith, here r same, way-by j hj, ap (λ (k : ℕ). word mem (table + size * k + j)) same)
+        ways r j hr hj (no other) = omega (arith, before r, c .ways r j (omega (arith, other)) hj)
+
+        far : (r : ℕ) → r < i + 1 → Dec (r ≡ i) → word dx″ (ownerAt mem first r) ≤ FAR
+        far r hr (yes same) = omega (arith, here r same, isWay .most)
+        far r hr (no other) = omega (arith, before r, c .far r (omega (arith, other)))
+
+        honest : (bound : ℕ → ℕ) → ((u : ℕ) → bound u ≤ FAR) → ((u : ℕ) → bound u ≤ word dx u)
+            → ((r j : ℕ) → r < i + 1 → j < size → bound (ownerAt mem first r) ≤ word mem (table + size * r + j) + nearAt mem first dx j) → (u : ℕ) → bound u ≤ word dx″ u
+        honest bound most least each u =
+            let old : bound u ≤ word dx′ u = c .honest bound most least (λ r j hr hj. each r j (omega arith) hj) u in
+            omega (
+              arith,
+              after-word u,
+              lowered-honest dx′ (ownerAt mem first i) way (bound u) u old (λ same. ⊎-elim
+                  (λ none. omega (arith, most u))
+                  (λ (t, ht, e).
+                  let o = g .only t ht in
+                  omega (arith, ap bound same, e, each i (word places t) (omega arith) (o .0), o .1))
+                  (isWay .found)),
+            )
+
+  pub closer-all : {i : ℕ} {dx′ : List ℕ} → Closer mem first table size dx i dx′ → i ≤ size → size ≤ i → Closer mem first table size dx size dx′
+  closer-all {i} {dx′} c low high =
+      let same : i ≡ size = omega arith in
+      subst (λ (n : ℕ). Closer mem first table size dx n dx′) same c
+
+-- under the names of a part's words
+pub closer-named : {mem : List ℕ} {first first′ table table′ size size′ : ℕ} {dx dx′ : List ℕ} → first ≡ first′ → table ≡ table′ → size ≡ size′ → Closer mem first table size dx size dx′
+    → Closer mem first′ table′ size′ dx size′ dx′
+closer-named {mem} {dx = dx} {dx′} f t s c = rw-all f t s c
+  where
+    rw-all : {first first′ table table′ size size′ : ℕ} → first ≡ first′ → table ≡ table′ → size ≡ size′ → Closer mem first table size dx size dx′ → Closer mem first′ table′ size′ dx size′ dx′
+    rw-all {first} {first′} {table} {table′} {size} {size′} f t s c =
+        subst (λ (a : ℕ). Closer mem a table′ size′ dx size′ dx′) f (subst (λ (a : ℕ). Closer mem first a size′ dx size′ dx′) t (subst (λ (a : ℕ). Closer mem first table a dx a dx′) s c))
+
+-- a row of a table starts within it
+pub table-row : (size i : ℕ) → size ≤ 128 → i < size → size * i ≤ 16384
+table-row size i few h = le-trans (mul-le-mul few (le-trans (le-of-lt h) few)) (omega arith)

@@ -1,0 +1,91 @@
+-- `gather` gathers the rows whose vertices have a distance.
+-- Assumes nothing.
+use mathlib.Core.Path.{_≡_, refl, sym, _∙_}
+use mathlib.Core.Logic.{inl, inr}
+use Prim.Native.Nat.{ℕ, _-_, _≤_, _<_}
+use native.Mathlib.Omega.{arith}
+use lib.ListN.{length}
+use Rattle.part_bounds.specs.Bounds.{Gathered}
+use Rattle.part_bounds.proofs.Gathering.{gathered-none, gathered-past, gathered-more, gathered-all}
+use borrow.Author.Needs.{needs}
+use Rattle.part_bounds.proofs.gather.Statement.{statement}
+use Rattle.part_bounds.proofs.gather.Tie as tie
+
+abbrev Inv-loop : tie.InvT-loop
+Inv-loop mem first size dx places₀ near₀ count₀ i₀ places near count i = (i ≤ size) × Gathered mem first dx i places near count
+
+abbrev μ-loop : tie.MeasureT-loop
+μ-loop mem first size dx places₀ near₀ count₀ i₀ places near count i = size - i
+
+loop-holds : tie.Need-loop-holds Inv-loop μ-loop
+loop-holds c = (omega arith, gathered-none (c .before .before .before .before .pre .2) (c .before .before .before .before .pre .3))
+
+row-word-requires : tie.Need-row-word-requires Inv-loop μ-loop
+row-word-requires c κs = search needs
+
+wide-requires : tie.Need-wide-requires Inv-loop μ-loop
+wide-requires c κs = search needs
+
+word-requires : tie.Need-word-requires Inv-loop μ-loop
+word-requires c κs = search needs
+
+cast-put : tie.Need-cast-put Inv-loop μ-loop
+cast-put c = search needs
+
+put-requires : tie.Need-put-requires Inv-loop μ-loop
+put-requires c κs = search needs
+
+put-requires-2 : tie.Need-put-requires-2 Inv-loop μ-loop
+put-requires-2 c κs = search needs
+
+add-count : tie.Need-add-count Inv-loop μ-loop
+add-count c = search needs
+
+add-i : tie.Need-add-i Inv-loop μ-loop
+add-i c = search needs
+
+loop-less : tie.Need-loop-less Inv-loop μ-loop
+loop-less c = search needs
+
+loop-again : tie.Need-loop-again Inv-loop μ-loop
+loop-again c =
+    elim (c .if1 .came) [
+      | inl t ↦ (
+        omega arith,
+        rw (t .11) (gathered-more (c .before .before .before .before .before .loop .inv .1) (c .before .before .before .row-word .ensures) refl (c .before .before .wide .ensures) (c .before .word .ensures) (t .0 .taken) (omega arith) (t .9 ∙ t .2 .ensures) (t .10 ∙ t .6 .ensures)),
+      )
+      | inr t ↦ (
+        omega arith,
+        rw (t .1, t .2, t .3) (gathered-past (c .before .before .before .before .before .loop .inv .1) (c .before .before .before .row-word .ensures) refl (c .before .before .wide .ensures) (c .before .word .ensures) (t .0 .left)),
+      )
+    ]
+
+same-length : tie.Need-same-length Inv-loop μ-loop
+same-length c = c .before .loop .inv .1 .places-length ∙ sym (c .before .before .before .before .before .before .pre .2)
+
+same-length-2 : tie.Need-same-length-2 Inv-loop μ-loop
+same-length-2 c = c .before .loop .inv .1 .near-length ∙ sym (c .before .before .before .before .before .before .pre .3)
+
+returns : tie.Need-returns Inv-loop μ-loop
+returns c = gathered-all (c .before .loop .inv .1) (c .before .loop .inv .0) (c .loop-test .left)
+
+pub gather-spec : {M : Type 1} → statement M
+gather-spec =
+    tie.close
+    (tie.spec
+    Inv-loop
+    μ-loop
+    loop-holds
+    row-word-requires
+    wide-requires
+    word-requires
+    cast-put
+    put-requires
+    put-requires-2
+    add-count
+    add-i
+    loop-less
+    loop-again
+    same-length
+    same-length-2
+    returns)

@@ -1,0 +1,74 @@
+-- `relax_rows` makes the distances less, row by row.
+-- Assumes nothing.
+use mathlib.Core.Path.{_≡_, refl}
+use Prim.Native.Nat.{ℕ, _-_, _≤_, _<_}
+use native.Mathlib.Omega.{arith}
+use Rattle.part_bounds.specs.Bounds.{Closer}
+use Rattle.part_bounds.proofs.Relaxing.{closer-none, closer-more, closer-all, table-row}
+use borrow.Author.Needs.{needs}
+use Rattle.part_bounds.proofs.relax_rows.Statement.{statement}
+use Rattle.part_bounds.proofs.relax_rows.Tie as tie
+
+abbrev Inv-loop : tie.InvT-loop
+Inv-loop mem first table size dx₀ places near count i₀ dx i = (i ≤ size) × Closer mem first table size dx₀ i dx
+
+abbrev μ-loop : tie.MeasureT-loop
+μ-loop mem first table size dx₀ places near count i₀ dx i = size - i
+
+loop-holds : tie.Need-loop-holds Inv-loop μ-loop
+loop-holds c = (omega arith, closer-none)
+
+mul-least-way : tie.Need-mul-least-way Inv-loop μ-loop
+mul-least-way c = omega (arith, table-row (c .before .before .before .before .before .before .args .size) (c .before .loop .i) (c .before .before .before .before .before .before .pre .2) (c .loop-test .taken))
+
+add-least-way : tie.Need-add-least-way Inv-loop μ-loop
+add-least-way c = omega (arith, table-row (c .before .before .before .before .before .before .args .size) (c .before .loop .i) (c .before .before .before .before .before .before .pre .2) (c .loop-test .taken))
+
+least-way-requires : tie.Need-least-way-requires Inv-loop μ-loop
+least-way-requires c κs = omega (arith, table-row (c .before .before .before .before .before .before .args .size) (c .before .loop .i) (c .before .before .before .before .before .before .pre .2) (c .loop-test .taken))
+
+row-word-requires : tie.Need-row-word-requires Inv-loop μ-loop
+row-word-requires c κs = search needs
+
+wide-requires : tie.Need-wide-requires Inv-loop μ-loop
+wide-requires c κs = search needs
+
+lower-requires : tie.Need-lower-requires Inv-loop μ-loop
+lower-requires c κs = search needs
+
+add-i : tie.Need-add-i Inv-loop μ-loop
+add-i c = search needs
+
+loop-less : tie.Need-loop-less Inv-loop μ-loop
+loop-less c = search needs
+
+loop-again : tie.Need-loop-again Inv-loop μ-loop
+loop-again c = (
+  omega arith,
+  closer-more (c .before .before .before .before .before .before .before .before .before .before .before .before .before .pre .3) (c .before .before .before .before .before .before .before .loop-test .taken) (c .before .before .before .before .before .before .before .before .loop .inv .1) (c .before .before .before .before .before .before .least-way .ensures) (c .before .before .before .before .before .row-word .ensures) refl (c .before .before .before .wide .ensures) (c .before .before .lower .ensures),
+)
+
+same-length : tie.Need-same-length Inv-loop μ-loop
+same-length c = c .before .loop .inv .1 .same-length
+
+returns : tie.Need-returns Inv-loop μ-loop
+returns c = closer-all (c .before .loop .inv .1) (c .before .loop .inv .0) (c .loop-test .left)
+
+pub relax-rows-spec : {M : Type 1} → statement M
+relax-rows-spec =
+    tie.close
+    (tie.spec
+    Inv-loop
+    μ-loop
+    loop-holds
+    mul-least-way
+    add-least-way
+    least-way-requires
+    row-word-requires
+    wide-requires
+    lower-requires
+    add-i
+    loop-less
+    loop-again
+    same-length
+    returns)

@@ -1,0 +1,279 @@
+-- How a search starts, what a leaf that is looked at leaves, and when the list of the best is the answer.
+-- Assumes nothing.
+use mathlib.Core.Path.{_≡_, refl, sym, ap, subst, subst⁻¹, _∙_}
+use mathlib.Core.Logic.{_⊎_, inl, inr, ⊎-elim, _≢_}
+use mathlib.Core.Bool.{Bool, true, false, cond, true≢false}
+use mathlib.Core.List.{List, [], _∷_, List·Memᴰ, List·Memᴰ·head, List·Memᴰ·tail}
+use Prim.Native.Nat.{ℕ, zero, suc, _+_, _-_, _≤_, _<_, min}
+use native.Mathlib.Decide.{decLt, ℕ-discrete}
+use native.Mathlib.Omega.{arith}
+use lib.ListN.{length, set, take, length-set}
+use lib.Seq.{getD-set-same, getD-set-other, take-nil}
+use lib.Dec.{eqb}
+use borrow.Author.Tests.{eq-eqb, eqb-true, ne-eqb}
+use Rattle.words.specs.Limits.{FAR}
+use Rattle.words.specs.Lists.{word, keep}
+use Rattle.words.proofs.Tests.{true-or-false}
+use Rattle.words.proofs.Lists.{any-by}
+use Rattle.words.proofs.Places.{entry-in}
+use Rattle.roads.specs.Map.{Map, partCount}
+use Rattle.roads.specs.Dist.{dist}
+use Rattle.roads.proofs.Trail.{Net}
+use Rattle.roads.proofs.Laws.{dist-most, dist-self}
+use Rattle.parts.specs.Tree.{leafOf, holds, isLeaf}
+use Rattle.parts.specs.Border.{boundary}
+use Rattle.parts.specs.Size.{rowVertices}
+use Rattle.parts.proofs.Rows.{row-vertex}
+use Rattle.parts.proofs.Way.{in-own-leaf}
+use Rattle.parts.proofs.Down.{Tree}
+use Rattle.parts.proofs.Gates.{boundary-row, leaf-of-held}
+use Rattle.maps.proofs.Distances.{sound-net, sound-tree}
+use Rattle.fleet.specs.State.{Van, absent, State, slotOf, headOf, headsFor, active, distanceOf}
+use Rattle.fleet.specs.Question.{Listed, comingFrom, sorted, nearest}
+use Rattle.fleet.proofs.Coming.{coming-distinct}
+use Rattle.best_list.specs.Best.{limitOf, offeredAll}
+use Rattle.best_list.proofs.Offers.{bestOf, ends, limit-below}
+use Rattle.places.specs.Place.{countsIn}
+use Rattle.van_offers.specs.Offers.{leafOffers}
+use Rattle.far_sums.specs.Least.{Least}
+use Rattle.part_bounds.specs.Bounds.{partWord, rowsIn, lowered, keyAt}
+use Rattle.part_bounds.proofs.Lowering.{lowered-length, lowered-found}
+use Rattle.question.specs.Kept.{Genuine, Relaxed, BoundOutside, Coming, Covered, Waits, Searching, vanLeaf, isOffered}
+use Rattle.question.proofs.Exact.{still-honest, exact-out, exact-own}
+use Rattle.question.proofs.Heading.{heads-if, head-below, van-below}
+use Rattle.question.proofs.Leaves.{comers, Comer, comer-says, comer-near, comer-leaf, leaf-best}
+use Rattle.question.proofs.Turns.{fewer, still-waited, covered-without, bound-outside, closer-waits, holding-part}
+
+-- no mark is set: nothing was offered
+not-offered : (m : Map) (s : State) (marks : List ℕ) → ((q : ℕ) → word marks q ≡ 0) → (l : Listed) → isOffered m s marks l ≡ false
+unfolding isOffered
+not-offered m s marks no-marks l = ne-eqb (word marks (vanLeaf m (slotOf s (l .van)))) 1 (λ e. omega (arith, e, no-marks (vanLeaf m (slotOf s (l .van)))))
+
+keep-none : (test : Listed → Bool) (all : List Listed) → ((l : Listed) → test l ≡ false) → keep test all ≡ []
+keep-none test [] out = refl
+keep-none test (l ∷ all) out = rw (out l) (keep-none test all out)
+
+-- what a leaf that was looked at for the first time leaves
+pub record FirstLook (mem : List ℕ) (leaf : ℕ) (dx marks : List ℕ) (found : List Listed) (k : ℕ) (dx′ marks′ : List ℕ) (found′ : List Listed) : Type 0 where
+  pub relaxed : Relaxed mem leaf dx dx′
+  pub marks-are : marks′ ≡ set marks leaf 1
+  pub found-are : found′ ≡ offeredAll k found (leafOffers mem (countsIn mem) (partWord mem leaf 2) dx′ (rowsIn mem leaf) 0)
+
+module _ {m : Map} {s : State} {mem : List ℕ} (g : Genuine m s mem) (x : ℕ) (hx : x < m .vertices) (k : ℕ) (some : 1 ≤ k) where
+  net : Net m
+  net = sound-net m (g .sound)
+
+  tree : Tree m
+  tree = sound-tree m (g .sound)
+
+  -- a mark is kept, and the leaf's is set
+  marks-keep : (marks : List ℕ) (q p : ℕ) → q < partCount m → length marks ≡ 512 → word marks p ≡ 1 → word (set marks q 1) p ≡ 1
+  marks-keep marks q p hq long e =
+      elim (ℕ-discrete p q) [
+        | yes same ↦ ap (word (set marks q 1)) same ∙ getD-set-same marks q 1 0 (omega (arith, long, g .sound .parts))
+        | no other ↦ getD-set-other marks q p 1 0 other ∙ e
+      ]
+
+  marks-new : (marks : List ℕ) (q : ℕ) → q < partCount m → length marks ≡ 512 → word (set marks q 1) q ≡ 1
+  marks-new marks q hq long = getD-set-same marks q 1 0 (omega (arith, long, g .sound .parts))
+
+  -- the list after a first look, where the leaf's vertices have their distances
+  looked : (q : ℕ) → q < partCount m → isLeaf m q ≡ true → (dx marks dx′ marks′ : List ℕ) (found found′ : List Listed) → length marks ≡ 512 → word marks q ≢ 1
+      → FirstLook mem q dx marks found k dx′ marks′ found′ → ((v : ℕ) → v < m .vertices → dist m v x ≤ word dx′ v)
+      → ((r : ℕ) → List·Memᴰ r (rowVertices m q) → word dx′ r ≤ dist m r x) → found ≡ take k (sorted (keep (isOffered m s marks) (comingFrom m x 0 (s .vans))))
+      → found′ ≡ take k (sorted (keep (isOffered m s (set marks q 1)) (comingFrom m x 0 (s .vans))))
+  looked q hq leaf dx marks dx′ marks′ found found′ long fresh look honest exact list =
+      look .found-are
+      ∙ ap (λ (l : List Listed). offeredAll k l (leafOffers mem (countsIn mem) (partWord mem q 2) dx′ (rowsIn mem q) 0)) list
+      ∙ leaf-best g x q hq leaf dx′ (λ r hr. omega (arith, honest r (row-vertex m q r hr), exact r hr)) k some marks long fresh
+
+  module _ {dx keys marks waits : List ℕ} {part out n : ℕ} {found : List Listed} (st : Searching m s x k dx keys marks waits part out n found) where
+    -- A waiting leaf is taken.
+    module _ (at : ℕ) (h : at < n) (fits : n ≤ length waits) (leaf : isLeaf m (word waits at) ≡ true) where
+      q : ℕ
+      q = word waits at
+
+      w : Waits m s x dx q (word keys q)
+      unfolding q
+      w = st .waiting at h
+
+      waiting-less : (t : ℕ) → t < n - 1 → Waits m s x dx (word (fewer waits at n h fits) t) (word keys (word (fewer waits at n h fits) t))
+      waiting-less t ht =
+          let (u, hu, e) = still-waited waits at n h fits t ht in
+          subst⁻¹ (λ (p : ℕ). Waits m s x dx p (word keys p)) e (st .waiting u hu)
+
+      -- what was covered still is, where the leaf's mark is set
+      still : (marks′ : List ℕ) → ((p : ℕ) → word marks p ≡ 1 → word marks′ p ≡ 1) → word marks′ q ≡ 1 → (low v : ℕ) → Covered m marks waits n low v → Covered m marks′ (fewer waits at n h fits) (n - 1) low v
+      unfolding q
+      still marks′ kept set′ low v c =
+          ⊎-elim
+          (λ old. ⊎-elim (λ marked. inl (kept (leafOf m v) marked)) inr old)
+          (λ (from, inside). inl (ap (word marks′) (leaf-of-held m net tree q v leaf inside) ∙ set′))
+          (covered-without waits at n h fits m marks low v c)
+
+      pub leaf-again : word marks (word waits at) ≡ 1 → Searching m s x k dx keys marks (fewer waits at n h fits) part out (n - 1) found
+      unfolding q
+      leaf-again marked =
+          record {
+            keys-length = st .keys-length;
+            marks-length = st .marks-length;
+            honest = st .honest;
+            is-part = st .is-part;
+            holds-x = st .holds-x;
+            root-out = st .root-out;
+            gates = st .gates;
+            outside = st .outside;
+            waiting = waiting-less;
+            inside = λ v comes inside. still marks (λ p e. e) marked part v (st .inside v comes inside);
+            keyed = λ p key v comes inside. still marks (λ p e. e) marked p v (st .keyed p key v comes inside);
+            list = st .list;
+          }
+
+      pub leaf-taken : {dx′ marks′ : List ℕ} {found′ : List Listed} → word marks (word waits at) ≢ 1 → FirstLook mem (word waits at) dx marks found k dx′ marks′ found′
+          → Searching m s x k dx′ keys marks′ (fewer waits at n h fits) part out (n - 1) found′
+      unfolding q
+      leaf-taken {dx′} {marks′} {found′} fresh look =
+          subst⁻¹ (λ (ms : List ℕ). Searching m s x k dx′ keys ms (fewer waits at n h fits) part out (n - 1) found′) (look .marks-are)
+          (record {
+            keys-length = st .keys-length;
+            marks-length = length-of;
+            honest = honest;
+            is-part = st .is-part;
+            holds-x = st .holds-x;
+            root-out = st .root-out;
+            gates = λ b e. omega (arith, look .relaxed .no-more b, st .gates b e);
+            outside = st .outside;
+            waiting = λ t ht. closer-waits g x hx (look .relaxed .no-more) (waiting-less t ht);
+            inside = λ v comes inside. covers part v (st .inside v comes inside);
+            keyed = λ p key v comes inside. covers p v (st .keyed p key v comes inside);
+            list = looked q (w .is-part) leaf dx marks dx′ marks′ found found′ (st .marks-length) fresh look honest exact (st .list);
+          })
+        where
+          length-of : length (set marks q 1) ≡ 512
+          length-of = length-set marks q 1 ∙ st .marks-length
+
+          honest : (v : ℕ) → v < m .vertices → dist m v x ≤ word dx′ v
+          honest = still-honest g q (w .is-part) (look .relaxed) x hx (st .honest)
+
+          exact : (r : ℕ) → List·Memᴰ r (rowVertices m q) → word dx′ r ≤ dist m r x
+          exact = exact-out g q (w .is-part) (look .relaxed) x hx (w .apart) (w .gates)
+
+          covers : (low v : ℕ) → Covered m marks waits n low v → Covered m (set marks q 1) (fewer waits at n h fits) (n - 1) low v
+          covers low v c = still (set marks q 1) (λ p e. marks-keep marks q p (w .is-part) (st .marks-length) e) (marks-new marks q (w .is-part) (st .marks-length)) low v c
+
+    -- a van that can come heads for an active vertex that reaches x, and is no nearer than it
+    comer-comes : (l : Listed) (c : Comer g x l) → Coming m s x (headOf m (c .van)) × (dist m (headOf m (c .van)) x ≤ l .distance)
+    unfolding active distanceOf
+    comer-comes l c = (
+      record {
+        vertex = head-below g (c .place) (c .van) (c .there);
+        is-active =
+            any-by (headsFor m (headOf m (c .van))) (s .vans) (slotOf s (c .place))
+            (entry-in (s .vans) (c .place) absent (omega (arith, van-below g (c .place) (c .van) (c .there), g .good .slots)))
+            (ap (headsFor m (headOf m (c .van))) (c .there) ∙ heads-if m (c .van) (c .free));
+        reaches = c .reaches;
+      },
+      omega (arith, ap (λ (a : Listed). a .distance) (c .same)),
+    )
+
+    -- The search stops: what lies outside and what waits is farther than the limit.
+    pub stopped : (key : ℕ) → Least (keyAt keys waits) n key → limitOf k found < out → limitOf k found < key → found ≡ nearest m s x k
+    unfolding nearest isOffered keyAt
+    stopped key least beyond-out beyond-key =
+        st .list ∙ ends k some (comers g x) (coming-distinct m x 0 (s .vans)) (comer-near g x) (isOffered m s marks) (λ l h. rest l (comer-says g x l h))
+      where
+        limit : limitOf k found ≡ limitOf k (take k (sorted (keep (isOffered m s marks) (comingFrom m x 0 (s .vans)))))
+        limit = ap (limitOf k) (st .list)
+
+        rest : (l : Listed) → Comer g x l → (isOffered m s marks l ≡ true) ⊎ (limitOf k (take k (sorted (keep (isOffered m s marks) (comingFrom m x 0 (s .vans))))) < l .distance)
+        rest l c = by (true-or-false (holds m part v))
+          where
+            v : ℕ
+            v = headOf m (c .van)
+
+            comes : Coming m s x v × (dist m v x ≤ l .distance)
+            comes = comer-comes l c
+
+            by : (holds m part v ≡ true) ⊎ (holds m part v ≡ false) → (isOffered m s marks l ≡ true) ⊎ (limitOf k (take k (sorted (keep (isOffered m s marks) (comingFrom m x 0 (s .vans))))) < l .distance)
+            by (inr out′) = inr (omega (arith, st .outside v (comes .0 .vertex) out′, comes .1, limit))
+            by (inl inside) =
+                ⊎-elim
+                (λ marked. inl (eq-eqb _ 1 (ap (word marks) (comer-leaf g x l c) ∙ marked)))
+                (λ (t, ht, from, held). inr (omega (arith, least .below t ht, st .waiting t ht .bound v (comes .0) held, comes .1, limit)))
+                (st .inside v (comes .0) inside)
+
+    -- the limit of the list is below FAR
+    pub limit-near : limitOf k found < FAR
+    limit-near = limit-below k some (comers g x) (coming-distinct m x 0 (s .vans)) (comer-near g x) (isOffered m s marks) found (st .list)
+
+  -- The start: the leaf of x.
+  module _ (dx₀ keys marks waits : List ℕ) {dx keys₁ dx′ marks′ : List ℕ} {out : ℕ} {found′ : List Listed} (far : (v : ℕ) → v < 4096 → word dx₀ v ≡ FAR) (long : length dx₀ ≡ 4096) (isStart : dx ≡ set dx₀ x 0)
+      (no-keys : (q : ℕ) → q < 512 → word keys q ≡ FAR) (keys-long : length keys ≡ 512) (no-marks : (q : ℕ) → word marks q ≡ 0) (marks-long : length marks ≡ 512)
+      (leaf : ℕ) (isLeaf′ : leaf ≡ leafOf m x) (look : FirstLook mem leaf dx marks [] k dx′ marks′ found′) (isKeys : keys₁ ≡ lowered keys leaf 0) (bound : BoundOutside mem leaf dx′ out) where
+    hl : leaf < partCount m
+    hl = omega (arith, isLeaf′, tree .leaf-part x hx)
+
+    is-leaf : isLeaf m leaf ≡ true
+    is-leaf = ap (isLeaf m) isLeaf′ ∙ tree .leaf-leaf x hx
+
+    start-at : word dx x ≡ 0
+    start-at = ap (λ (l : List ℕ). word l x) isStart ∙ getD-set-same dx₀ x 0 0 (omega (arith, long, g .sound .vertices))
+
+    honest : (v : ℕ) → v < m .vertices → dist m v x ≤ word dx v
+    honest v hv =
+        elim (ℕ-discrete v x) [
+          | yes same ↦ omega (arith, ap (λ (k : ℕ). dist m k x) same, dist-self m net x hx)
+          | no other ↦
+              omega (
+                arith,
+                ap (λ (l : List ℕ). word l v) isStart,
+                getD-set-other dx₀ x v 0 0 other,
+                far v (omega (arith, hv, g .sound .vertices)),
+                dist-most m net v hv x,
+              )
+        ]
+
+    honest′ : (v : ℕ) → v < m .vertices → dist m v x ≤ word dx′ v
+    honest′ = still-honest g leaf hl (look .relaxed) x hx honest
+
+    exact : (r : ℕ) → List·Memᴰ r (rowVertices m leaf) → word dx′ r ≤ dist m r x
+    exact = exact-own g leaf hl (look .relaxed) x hx is-leaf (sym isLeaf′) (omega (arith, start-at))
+
+    gates : (b : ℕ) → boundary m leaf b ≡ true → word dx′ b ≤ dist m b x
+    gates b e = exact b (boundary-row m net tree leaf b e)
+
+    holds-x : holds m leaf x ≡ true
+    holds-x = ap (λ (p : ℕ). holds m p x) isLeaf′ ∙ in-own-leaf m x hx
+
+    none-offered : [] ≡ take k (sorted (keep (isOffered m s marks) (comingFrom m x 0 (s .vans))))
+    unfolding sorted
+    none-offered = sym (ap (λ (l : List Listed). take k (sorted l)) (keep-none (isOffered m s marks) (comingFrom m x 0 (s .vans)) (not-offered m s marks no-marks)) ∙ take-nil k)
+
+    covered : (low v : ℕ) → holds m leaf v ≡ true → Covered m (set marks leaf 1) waits 0 low v
+    covered low v inside = inl (ap (word (set marks leaf 1)) (leaf-of-held m net tree leaf v is-leaf inside) ∙ marks-new marks leaf hl marks-long)
+
+    keyed : (q : ℕ) → word keys₁ q < FAR → (v : ℕ) → Coming m s x v → holds m q v ≡ true → Covered m (set marks leaf 1) waits 0 q v
+    keyed q key v comes inside =
+        let hq = holding-part m tree q v inside in
+        ⊎-elim
+        (λ old. absurd (omega (arith, no-keys q (omega (arith, hq, g .sound .parts)), old)))
+        (λ (same, low, near). covered q v (ap (λ (p : ℕ). holds m p v) (sym same) ∙ inside))
+        (lowered-found keys leaf 0 FAR q (omega (arith, key, ap (λ (l : List ℕ). word l q) isKeys)))
+
+    pub started : Searching m s x k dx′ keys₁ marks′ waits leaf out 0 found′
+    started =
+        subst⁻¹ (λ (ms : List ℕ). Searching m s x k dx′ keys₁ ms waits leaf out 0 found′) (look .marks-are)
+        (record {
+          keys-length = ap length isKeys ∙ lowered-length keys leaf 0 ∙ keys-long;
+          marks-length = length-set marks leaf 1 ∙ marks-long;
+          honest = honest′;
+          is-part = hl;
+          holds-x = holds-x;
+          root-out = bound .root;
+          gates = gates;
+          outside = bound-outside g x hx leaf hl bound holds-x gates;
+          waiting = λ t h. absurd (omega arith);
+          inside = λ v comes inside. covered leaf v inside;
+          keyed = keyed;
+          list = looked leaf hl is-leaf dx marks dx′ marks′ [] found′ marks-long (λ e. omega (arith, e, no-marks leaf)) look honest′ exact none-offered;
+        })

@@ -1,0 +1,263 @@
+-- A leaf that is looked at offers the free vans that head into it and reach x, each once; so the best are the best with these.
+-- Assumes nothing.
+use mathlib.Core.Path.{_≡_, refl, sym, ap, subst, subst⁻¹, _∙_}
+use mathlib.Core.Logic.{_⊎_, inl, inr, ⊎-elim, _≢_}
+use mathlib.Core.Bool.{Bool, true, false, cond, _&&_}
+use mathlib.Core.List.{List, [], _∷_, _++_, List·Memᴰ, List·Memᴰ·head, List·Memᴰ·tail, List·Memᴰ·not-nil, List·Memᴰ·append-cases, Memᴰ·append-left, Memᴰ·append-right, Memᴰ·cast}
+use Prim.Native.Nat.{ℕ, zero, suc, _+_, _≤_, _<_}
+use native.Mathlib.Nat.{zero-add}
+use native.Mathlib.Decide.{decLt, ℕ-discrete}
+use native.Mathlib.Omega.{arith}
+use lib.ListN.{length, set, take}
+use lib.Seq.{getD-set-same, getD-set-other}
+use lib.Dec.{eqb, ltb}
+use borrow.Author.Tests.{eqb-true, eq-eqb, ne-eqb, ltb-true, lt-ltb, le-ltb}
+use Rattle.words.specs.Limits.{FAR, mostAsked}
+use Rattle.words.specs.Lists.{word, placeIn, keep}
+use Rattle.words.proofs.Tests.{both-true, both-pass}
+use Rattle.words.proofs.Places.{place-of-entry}
+use Rattle.roads.specs.Map.{Map, partCount}
+use Rattle.roads.specs.Dist.{dist}
+use Rattle.parts.specs.Tree.{leafOf, isLeaf}
+use Rattle.parts.specs.Size.{rowVertices, sizeOf}
+use Rattle.parts.proofs.Rows.{rows-unique}
+use Rattle.parts.proofs.Down.{vertices-has}
+use Rattle.parts.proofs.Gates.{rows-leaf, vertices-says}
+use Rattle.fleet.specs.State.{Van, Slot, absent, present, State, slotOf, headOf}
+use Rattle.fleet.specs.Question.{Listed, canCome, comingFrom, sorted}
+use Rattle.fleet.proofs.Sorted.{Distinct, none, more}
+use Rattle.fleet.proofs.Coming.{entry, Comes, coming-says, coming-has, coming-distinct}
+use Rattle.image.specs.Records.{rowVertex}
+use Rattle.places.specs.Place.{countsIn, vertexAt}
+use Rattle.best_list.specs.Best.{offeredAll}
+use Rattle.best_list.proofs.Offers.{bestOf, offered-more}
+use Rattle.van_offers.specs.Offers.{vanOffers, rowOwner, vertexOffers, leafOffers}
+use Rattle.part_bounds.specs.Bounds.{partWord, rowsIn}
+use Rattle.question.specs.Kept.{Genuine, vanLeaf, isOffered}
+use Rattle.question.proofs.Shown.{rows-read, owner-read, row-below, row-in, place-read}
+use Rattle.question.proofs.Heading.{Heads, offers-say, offers-have, offers-distinct, head-below, comes-near}
+
+distinct-append : {a b : List Listed} → Distinct a → Distinct b → ((x y : Listed) → List·Memᴰ x a → List·Memᴰ y b → x .van ≢ y .van) → Distinct (a ++ b)
+distinct-append none db apart = db
+distinct-append {b = b} (more {a = x} {bs = xs} differ rest) db apart =
+    more {a = x} {bs = xs ++ b}
+    (λ y h. ⊎-elim (differ y) (λ there. apart x y (List·Memᴰ·head refl) there) (List·Memᴰ·append-cases xs h))
+    (distinct-append rest db (λ p q hp hq. apart p q (List·Memᴰ·tail hp) hq))
+
+module _ {m : Map} {s : State} {mem : List ℕ} (g : Genuine m s mem) (x : ℕ) where
+  abbrev pub comers : List Listed
+  comers = comingFrom m x 0 (s .vans)
+
+  -- the van of an entry of those that can come
+  pub record Comer (l : Listed) : Type 0 where
+    pub place : ℕ
+    pub van : Van
+    pub there : slotOf s place ≡ present van
+    pub free : van .holder ≡ 0
+    pub reaches : dist m (headOf m van) x < FAR
+    pub same : l ≡ entry m x place van
+
+  pub comer-says : (l : Listed) → List·Memᴰ l comers → Comer l
+  unfolding canCome
+  comer-says l h =
+      let c = coming-says m x 0 (s .vans) l h in
+      let both = both-true (eqb (c .van .holder) 0) _ (c .can) in
+      record {
+        place = c .place;
+        van = c .van;
+        there = c .there;
+        free = eqb-true (c .van .holder) 0 (both .0);
+        reaches = ltb-true (dist m (headOf m (c .van)) x) FAR (both .1);
+        same = c .same ∙ ap (λ (i : ℕ). entry m x i (c .van)) (zero-add (c .place));
+      }
+
+  pub comer-has : (l : Listed) → Comer l → List·Memᴰ l comers
+  unfolding canCome
+  comer-has l c =
+      coming-has m x 0 (s .vans) l
+      (record {
+        place = c .place;
+        van = c .van;
+        there = c .there;
+        can = both-pass (eqb (c .van .holder) 0) _ (eq-eqb (c .van .holder) 0 (c .free)) (lt-ltb (dist m (headOf m (c .van)) x) FAR (c .reaches));
+        same = c .same ∙ ap (λ (i : ℕ). entry m x i (c .van)) (sym (zero-add (c .place)));
+      })
+
+  pub comer-near : (l : Listed) → List·Memᴰ l comers → l .distance < FAR
+  comer-near l h = let c = comer-says l h in omega (arith, ap (λ (a : Listed). a .distance) (c .same), comes-near g x (c .place) (c .van) (c .there) (c .reaches))
+
+  -- the leaf that it heads into
+  pub comer-leaf : (l : Listed) (c : Comer l) → vanLeaf m (slotOf s (l .van)) ≡ leafOf m (headOf m (c .van))
+  comer-leaf l c = ap (λ (i : ℕ). vanLeaf m (slotOf s i)) (ap (λ (a : Listed). a .van) (c .same)) ∙ ap (vanLeaf m) (c .there)
+
+  -- The offers of leaf q, whose vertices have their distances.
+  module _ (q : ℕ) (hq : q < partCount m) (leaf : isLeaf m q ≡ true) (dx : List ℕ) (exact : (r : ℕ) → List·Memᴰ r (rowVertices m q) → word dx r ≡ dist m r x) where
+    abbrev first : ℕ
+    first = partWord mem q 2
+
+    abbrev offersFrom : ℕ → ℕ → List Listed
+    offersFrom n i = leafOffers mem (countsIn mem) first dx n i
+
+    -- a comer that heads for the vertex of row r
+    record FromRow (e : Listed) (low high : ℕ) : Type 0 where
+      row : ℕ
+      from : low ≤ row
+      below : row < high
+      comer : Comer e
+      heads : headOf m (comer .van) ≡ rowVertex m q row
+
+    module _ (i : ℕ) (hi : i < sizeOf m q) where
+      v : ℕ
+      v = rowVertex m q i
+
+      near-is : word dx (rowOwner mem first i) ≡ dist m v x
+      unfolding v
+      near-is = ap (word dx) (owner-read g q hq i hi) ∙ exact (rowVertex m q i) (row-in g q hq i hi)
+
+      rowOffers : List Listed
+      rowOffers = vertexOffers mem (countsIn mem) (rowOwner mem first i) (word dx (rowOwner mem first i))
+
+      abbrev chainOf : ℕ → ℕ → List Listed
+      chainOf near u = vanOffers mem (countsIn mem) near 1024 (word mem (vertexAt (countsIn mem) u + 4))
+
+      row-near : dist m v x < FAR → rowOffers ≡ chainOf (dist m v x) v
+      unfolding rowOffers vertexOffers v
+      row-near reaches =
+          rw (lt-ltb (word dx (rowOwner mem first i)) FAR (omega (arith, near-is)))
+          (λ j. chainOf (near-is j) (owner-read g q hq i hi j))
+
+      row-far : FAR ≤ dist m v x → rowOffers ≡ []
+      unfolding rowOffers vertexOffers
+      row-far far = rw (le-ltb (word dx (rowOwner mem first i)) FAR (omega (arith, near-is)))
+
+      row-says : (e : Listed) → List·Memᴰ e rowOffers → FromRow e i (suc i)
+      unfolding v
+      row-says e h = by (decLt (dist m v x) FAR)
+        where
+          by : Dec (dist m v x < FAR) → FromRow e i (suc i)
+          by (no far) = absurd (List·Memᴰ·not-nil (subst (List·Memᴰ e) (row-far (omega (arith, far))) h))
+          by (yes reaches) =
+              let c = offers-say g x v (dist m v x) reaches refl (row-below g q hq i hi) e (subst (List·Memᴰ e) (row-near reaches) h) in
+              record {
+                row = i;
+                from = omega arith;
+                below = omega arith;
+                comer = record { place = c .place; van = c .van; there = c .there; free = c .free; reaches = omega (arith, reaches, ap (λ (k : ℕ). dist m k x) (c .heads)); same = c .same };
+                heads = c .heads;
+              }
+
+      row-has : (e : Listed) (c : Comer e) → headOf m (c .van) ≡ v → List·Memᴰ e rowOffers
+      unfolding v
+      row-has e c heads =
+          let reaches : dist m v x < FAR = omega (arith, c .reaches, ap (λ (k : ℕ). dist m k x) heads) in
+          subst⁻¹ (List·Memᴰ e) (row-near reaches)
+          (Memᴰ·cast (c .same) (offers-have g x v (dist m v x) reaches refl (row-below g q hq i hi) (c .place) (c .van) (c .there) (c .free) heads))
+
+      row-distinct : Distinct rowOffers
+      unfolding v
+      row-distinct = by (decLt (dist m v x) FAR)
+        where
+          by : Dec (dist m v x < FAR) → Distinct rowOffers
+          by (no far) = subst⁻¹ Distinct (row-far (omega (arith, far))) none
+          by (yes reaches) = subst⁻¹ Distinct (row-near reaches) (offers-distinct g x v (dist m v x) reaches refl (row-below g q hq i hi))
+
+    all-say : (n i : ℕ) → i + n ≤ sizeOf m q → (e : Listed) → List·Memᴰ e (offersFrom n i) → FromRow e i (i + n)
+    unfolding leafOffers rowOffers
+    all-say zero i most e h = absurd (List·Memᴰ·not-nil h)
+    all-say (suc n) i most e h =
+        ⊎-elim
+        (λ here. let f = row-says i (omega arith) e here in record { row = f .row; from = f .from; below = omega (arith, f .below); comer = f .comer; heads = f .heads })
+        (λ later. let f = all-say n (suc i) (omega arith) e later in record { row = f .row; from = omega (arith, f .from); below = omega (arith, f .below); comer = f .comer; heads = f .heads })
+        (List·Memᴰ·append-cases (rowOffers i (omega arith)) h)
+
+    all-have : (n i j : ℕ) → i + n ≤ sizeOf m q → i ≤ j → j < i + n → (e : Listed) (c : Comer e) → headOf m (c .van) ≡ rowVertex m q j → List·Memᴰ e (offersFrom n i)
+    unfolding leafOffers rowOffers v
+    all-have zero i j most low high e c heads = absurd (omega arith)
+    all-have (suc n) i j most low high e c heads =
+        elim (ℕ-discrete j i) [
+          | yes same ↦ Memᴰ·append-left (offersFrom n (suc i)) (row-has i (omega arith) e c (heads ∙ ap (rowVertex m q) same))
+          | no other ↦ Memᴰ·append-right (rowOffers i (omega arith)) (all-have n (suc i) j (omega arith) (omega (arith, other)) (omega arith) e c heads)
+        ]
+
+    -- a van heads for one vertex, which has one row
+    one-row : (a b : Listed) {low mid high : ℕ} → high ≤ sizeOf m q → FromRow a low mid → FromRow b mid high → a .van ≢ b .van
+    unfolding sizeOf
+    one-row a b most f h same =
+        let place : f .comer .place ≡ h .comer .place = sym (ap (λ (l : Listed). l .van) (f .comer .same)) ∙ same ∙ ap (λ (l : Listed). l .van) (h .comer .same) in
+        let slot : present (f .comer .van) ≡ present (h .comer .van) = sym (f .comer .there) ∙ ap (slotOf s) place ∙ h .comer .there in
+        let van : f .comer .van ≡ h .comer .van = cc in
+        let vertex : rowVertex m q (f .row) ≡ rowVertex m q (h .row) = sym (f .heads) ∙ ap (headOf m) van ∙ h .heads in
+        omega (
+          arith,
+          f .below,
+          h .from,
+          place-of-entry (rows-unique m q) (f .row) (omega (arith, f .below, h .from, h .below)),
+          place-of-entry (rows-unique m q) (h .row) (omega (arith, h .below)),
+          ap (λ (k : ℕ). placeIn k (rowVertices m q)) vertex,
+        )
+
+    all-distinct : (n i : ℕ) → i + n ≤ sizeOf m q → Distinct (offersFrom n i)
+    unfolding leafOffers rowOffers
+    all-distinct zero i most = none
+    all-distinct (suc n) i most =
+        distinct-append (row-distinct i (omega arith)) (all-distinct n (suc i) (omega arith))
+        (λ a b ha hb. one-row a b (omega arith) (row-says i (omega arith) a ha) (all-say n (suc i) (omega arith) b hb))
+
+    -- all that it offers
+    abbrev pub leafList : List Listed
+    leafList = leafOffers mem (countsIn mem) (partWord mem q 2) dx (rowsIn mem q) 0
+
+    within : rowsIn mem q ≡ sizeOf m q
+    within = rows-read g q hq
+
+    leaf-says : (e : Listed) → List·Memᴰ e leafList → (c : Comer e) × (leafOf m (headOf m (c .van)) ≡ q)
+    leaf-says e h =
+        let f = all-say (rowsIn mem q) 0 (omega (arith, within)) e h in
+        let here : List·Memᴰ (rowVertex m q (f .row)) (rowVertices m q) = row-in g q hq (f .row) (omega (arith, f .below, within)) in
+        (f .comer, ap (leafOf m) (f .heads) ∙ vertices-says m q (rowVertex m q (f .row)) (subst (List·Memᴰ (rowVertex m q (f .row))) (rows-leaf m q leaf) here) .1)
+
+    leaf-has : (e : Listed) (c : Comer e) → leafOf m (headOf m (c .van)) ≡ q → List·Memᴰ e leafList
+    leaf-has e c own =
+        let h : ℕ = headOf m (c .van) in
+        let (i, hi, same) = place-read g q hq h (subst⁻¹ (List·Memᴰ h) (rows-leaf m q leaf) (vertices-has m q h (head-below g (c .place) (c .van) (c .there)) own)) in
+        all-have (rowsIn mem q) 0 i (omega (arith, within)) (omega arith) (omega (arith, within, hi)) e c (sym same)
+
+    -- the leaf's mark, and what it makes of the best
+    module _ (k : ℕ) (some : 1 ≤ k) (marks : List ℕ) (long : length marks ≡ 512) (fresh : word marks q ≢ 1) where
+      marked : word (set marks q 1) q ≡ 1
+      marked = getD-set-same marks q 1 0 (omega (arith, long, g .sound .parts))
+
+      kept : (p : ℕ) → p ≢ q → word (set marks q 1) p ≡ word marks p
+      kept p other = getD-set-other marks q p 1 0 other
+
+      mark-is : (l : Listed) (c : Comer l) (marks′ : List ℕ) → isOffered m s marks′ l ≡ eqb (word marks′ (leafOf m (headOf m (c .van)))) 1
+      unfolding isOffered
+      mark-is l c marks′ = ap (λ (p : ℕ). eqb (word marks′ p) 1) (comer-leaf l c)
+
+      pub leaf-best : offeredAll k (take k (sorted (keep (isOffered m s marks) comers))) leafList ≡ take k (sorted (keep (isOffered m s (set marks q 1)) comers))
+      leaf-best =
+          offered-more k some comers (coming-distinct m x 0 (s .vans)) comer-near (isOffered m s marks) (isOffered m s (set marks q 1)) leafList
+          (all-distinct (rowsIn mem q) 0 (omega (arith, within)))
+          (λ e h.
+          let told = leaf-says e h in
+          (comer-has e (told .0), mark-is e (told .0) marks ∙ ap (λ (p : ℕ). eqb (word marks p) 1) (told .1) ∙ ne-eqb (word marks q) 1 fresh))
+          (λ l h e. says l (comer-says l h) e)
+          (λ l h e. has l (comer-says l h) e)
+        where
+          says : (l : Listed) (c : Comer l) → isOffered m s (set marks q 1) l ≡ true → (isOffered m s marks l ≡ true) ⊎ List·Memᴰ l leafList
+          says l c e =
+              elim (ℕ-discrete (leafOf m (headOf m (c .van))) q) [
+                | yes own ↦ inr (leaf-has l c own)
+                | no other ↦ inl (mark-is l c marks ∙ ap (λ (w : ℕ). eqb w 1) (sym (kept (leafOf m (headOf m (c .van))) other)) ∙ sym (mark-is l c (set marks q 1)) ∙ e)
+              ]
+
+          own-marked : (l : Listed) (c : Comer l) → leafOf m (headOf m (c .van)) ≡ q → isOffered m s (set marks q 1) l ≡ true
+          own-marked l c own = mark-is l c (set marks q 1) ∙ ap (λ (p : ℕ). eqb (word (set marks q 1) p) 1) own ∙ eq-eqb (word (set marks q 1) q) 1 marked
+
+          has : (l : Listed) (c : Comer l) → (isOffered m s marks l ≡ true) ⊎ List·Memᴰ l leafList → isOffered m s (set marks q 1) l ≡ true
+          has l c (inr h) = let told = leaf-says l h in own-marked l (told .0) (told .1)
+          has l c (inl e) =
+              elim (ℕ-discrete (leafOf m (headOf m (c .van))) q) [
+                | yes own ↦ own-marked l c own
+                | no other ↦ mark-is l c (set marks q 1) ∙ ap (λ (w : ℕ). eqb w 1) (kept (leafOf m (headOf m (c .van))) other) ∙ sym (mark-is l c marks) ∙ e
+              ]

@@ -1,0 +1,9 @@
+-- Laws that the functions cite.
+pub mod Shown
+pub mod Exact
+pub mod Heading
+pub mod Leaves
+pub mod Turns
+pub mod Ends
+pub mod Calls
+pub mod Writing

@@ -1,0 +1,131 @@
+-- What a search keeps, turn by turn, on the words of a map and a fleet: every active vertex that reaches x has been looked at, or lies in a part that waits, or
+-- lies outside the part climbed to.
+use mathlib.Core.Path.{_≡_}
+use mathlib.Core.Logic.{_⊎_, _≢_}
+use mathlib.Core.Bool.{Bool, true, false}
+use mathlib.Core.List.{List, _++_}
+use Prim.Native.Nat.{ℕ, _+_, _*_, _≤_, _<_}
+use lib.ListN.{length, set, take, drop}
+use lib.Dec.{eqb}
+use Rattle.words.specs.Limits.{FAR}
+use Rattle.words.specs.Lists.{word, keep, gather}
+use Rattle.roads.specs.Map.{Map, partCount}
+use Rattle.roads.specs.Dist.{dist}
+use Rattle.parts.specs.Tree.{leafOf, holds}
+use Rattle.parts.specs.Border.{boundary}
+use Rattle.maps.specs.Sound.{Sound}
+use Rattle.fleet.specs.State.{Slot, absent, present, State, slotOf, headOf, active}
+use Rattle.fleet.specs.Good.{Good}
+use Rattle.fleet.specs.Question.{Listed, listedWords, comingFrom, sorted, nearest}
+use Rattle.image.specs.Image.{image}
+use Rattle.places.specs.Place.{countsIn}
+use Rattle.best_list.specs.declared.BestList.{BestList}
+use Rattle.best_list.specs.Best.{entries, offeredAll}
+use Rattle.van_offers.specs.Offers.{stampIn, leafOffers}
+use Rattle.far_sums.specs.Least.{Least}
+use Rattle.part_bounds.specs.Bounds.{partWord, rowsIn, Closer, Spread, outOf, farCount}
+use Rattle.question.specs.declared.Search.{Search}
+
+-- words that an opening of m and changes that led to s left behind
+pub record Genuine (m : Map) (s : State) (mem : List ℕ) : Type 0 where
+  pub sound : Sound m
+  pub good : Good m s
+  pub is : mem ≡ image m s
+
+-- the entries of the best, with the stamps that the memory shows
+abbrev pub listIn : List ℕ → BestList → List Listed
+listIn mem best = entries (stampIn mem (countsIn mem)) (best .fars) (best .vans) (best .len)
+
+-- The functions of the search, on any words.
+
+-- the distances of a part's rows were made less
+abbrev pub Relaxed : List ℕ → ℕ → List ℕ → List ℕ → Type 0
+Relaxed mem p dx dx′ = Closer mem (partWord mem p 2) (partWord mem p 3) (rowsIn mem p) dx (rowsIn mem p) dx′
+
+-- a leaf was looked at: nothing changes the second time
+pub record LeafTaken (mem : List ℕ) (leaf : ℕ) (dx marks : List ℕ) (best : BestList) (k : ℕ) (dx′ marks′ : List ℕ) (best′ : BestList) : Type 0 where
+  pub few : best′ .len ≤ k
+  pub again : word marks leaf ≡ 1 → (dx′ ≡ dx) × (marks′ ≡ marks) × (best′ ≡ best)
+  pub first : word marks leaf ≢ 1 → Relaxed mem leaf dx dx′ × (marks′ ≡ set marks leaf 1)
+      × (listIn mem best′ ≡ offeredAll k (listIn mem best) (leafOffers mem (countsIn mem) (partWord mem leaf 2) dx′ (rowsIn mem leaf) 0))
+
+-- a part was opened up
+abbrev pub OpenedUp : List ℕ → ℕ → List ℕ → List ℕ → List ℕ → ℕ → List ℕ → List ℕ → List ℕ → ℕ → Type 0
+OpenedUp mem p dx keys waits n dx′ keys′ waits′ n′ = Relaxed mem p dx dx′ × Spread mem (partWord mem p 2) dx′ (rowsIn mem p) keys waits n keys′ waits′ n′
+
+-- the bound of what lies outside a part
+pub record BoundOutside (mem : List ℕ) (part : ℕ) (dx : List ℕ) (out : ℕ) : Type 0 where
+  pub root : part ≡ 0 → out ≡ FAR
+  pub other : part ≢ 0 → Least (outOf mem (partWord mem (partWord mem part 0) 2) dx part) (rowsIn mem (partWord mem part 0)) out
+
+-- A search at x.
+
+-- an active vertex that reaches x
+pub record Coming (m : Map) (s : State) (x v : ℕ) : Type 0 where
+  pub vertex : v < m .vertices
+  pub is-active : active m s v ≡ true
+  pub reaches : dist m v x < FAR
+
+-- its leaf has been looked at, or it lies in one of the n parts that wait, of number `low` or a higher one
+abbrev pub Covered : Map → List ℕ → List ℕ → ℕ → ℕ → ℕ → Type 0
+Covered m marks waits n low v = (word marks (leafOf m v) ≡ 1) ⊎ ((t : ℕ) × (t < n) × (low ≤ word waits t) × (holds m (word waits t) v ≡ true))
+
+-- the leaf that a van heads into
+abbrev pub vanLeaf : Map → Slot → ℕ
+vanLeaf m absent = 0
+vanLeaf m (present v) = leafOf m (headOf m v)
+
+-- it has been looked at
+unfoldable pub isOffered : Map → State → List ℕ → Listed → Bool
+isOffered m s marks l = eqb (word marks (vanLeaf m (slotOf s (l .van)))) 1
+
+-- a part that does not hold x, whose boundary has its distances, and whose key is a bound
+pub record Waits (m : Map) (s : State) (x : ℕ) (dx : List ℕ) (q key : ℕ) : Type 0 where
+  pub is-part : q < partCount m
+  pub apart : holds m q x ≡ false
+  pub gates : (b : ℕ) → boundary m q b ≡ true → word dx b ≤ dist m b x
+  pub bound : (v : ℕ) → Coming m s x v → holds m q v ≡ true → key ≤ dist m v x
+
+pub record Searching (m : Map) (s : State) (x k : ℕ) (dx keys marks waits : List ℕ) (part out n : ℕ) (found : List Listed) : Type 0 where
+  pub keys-length : length keys ≡ 512
+  pub marks-length : length marks ≡ 512
+  -- no distance is too little
+  pub honest : (v : ℕ) → v < m .vertices → dist m v x ≤ word dx v
+  pub is-part : part < partCount m
+  pub holds-x : holds m part x ≡ true
+  pub root-out : part ≡ 0 → out ≡ FAR
+  pub gates : (b : ℕ) → boundary m part b ≡ true → word dx b ≤ dist m b x
+  pub outside : (v : ℕ) → v < m .vertices → holds m part v ≡ false → out ≤ dist m v x
+  pub waiting : (t : ℕ) → t < n → Waits m s x dx (word waits t) (word keys (word waits t))
+  pub inside : (v : ℕ) → Coming m s x v → holds m part v ≡ true → Covered m marks waits n part v
+  pub keyed : (q : ℕ) → word keys q < FAR → (v : ℕ) → Coming m s x v → holds m q v ≡ true → Covered m marks waits n q v
+  pub list : found ≡ take k (sorted (keep (isOffered m s marks) (comingFrom m x 0 (s .vans))))
+
+-- A turn.
+
+-- what is so of any words: it ends, since the parts without a key, those that wait and the number of the part climbed to grow less together
+pub record Shrunk (k : ℕ) (keys waits : List ℕ) (st : Search) (keys′ waits′ : List ℕ) (st′ : Search) : Type 0 where
+  pub few : st′ .best .len ≤ k
+  pub waits-length : length waits′ ≡ 512
+  pub total : farCount keys′ + st′ .waiting ≤ 512
+  pub shrinks : st′ .ended ≡ false → farCount keys′ + st′ .waiting + st′ .part < farCount keys + st .waiting + st .part
+
+-- what is so between two turns: it goes on, or the list is the answer
+abbrev pub GoesOn : (m : Map) (s : State) (x k : ℕ) (mem dx keys marks waits : List ℕ) (st : Search) → Type 0
+GoesOn m s x k mem dx keys marks waits st =
+    (st .ended ≡ false → Searching m s x k dx keys marks waits (st .part) (st .out) (st .waiting) (listIn mem (st .best)))
+    × (st .ended ≡ true → listIn mem (st .best) ≡ nearest m s x k)
+
+-- The arrays of a search before it starts.
+pub record Fresh (dx keys marks waits : List ℕ) : Type 0 where
+  pub dx-length : length dx ≡ 4096
+  pub no-distance : (v : ℕ) → v < 4096 → word dx v ≡ FAR
+  pub keys-length : length keys ≡ 512
+  pub no-key : (q : ℕ) → q < 512 → word keys q ≡ FAR
+  pub marks-length : length marks ≡ 512
+  pub no-mark : (q : ℕ) → word marks q ≡ 0
+  pub waits-length : length waits ≡ 512
+
+-- the words of a list, and then those of the answer that it leaves
+unfoldable pub written : List Listed → List ℕ → List ℕ
+written list answer = gather listedWords list ++ drop (3 * length list) answer

@@ -1,0 +1,2 @@
+-- What a search keeps, turn by turn.
+pub mod Kept

@@ -1,0 +1,83 @@
+-- `clear` stores 0, word by word.
+-- Assumes nothing.
+use mathlib.Core.Path.{_≡_, refl, _∙_, ap₂}
+use mathlib.Core.List.{List}
+use Prim.Native.Nat.{ℕ, _-_, _≤_}
+use native.Mathlib.Omega.{arith}
+use lib.ListN.{length, replicate}
+use lib.Seq.{sets}
+use borrow.Author.Needs.{needs}
+use Rattle.records.specs.Cleared.{cleared}
+use Rattle.records.proofs.Stores.{Clearing, clearing-none, clearing-more, clearing-all}
+use Rattle.records.proofs.clear.Statement.{statement}
+use Rattle.records.proofs.clear.Tie as tie
+
+all-cleared : (start mem : List ℕ) (at n base count i : ℕ) → base ≡ at → count ≡ n → count ≤ i → Clearing start base count mem i → mem ≡ cleared start at n
+unfolding cleared
+all-cleared start mem at n base count i b k h l = clearing-all start base count mem i h l ∙ ap₂ (λ (a c : ℕ). sets start a (replicate c 0)) b k
+
+abbrev Inv-loop : tie.InvT-loop
+Inv-loop mem₀ at n base count i₀ mem i = Clearing mem₀ base count mem i × (length mem ≡ length mem₀)
+
+abbrev μ-loop : tie.MeasureT-loop
+μ-loop mem₀ at n base count i₀ mem i = count - i
+
+wide-requires : tie.Need-wide-requires Inv-loop μ-loop
+wide-requires c κs = search needs
+
+wide-requires-2 : tie.Need-wide-requires-2 Inv-loop μ-loop
+wide-requires-2 c κs = search needs
+
+loop-holds : tie.Need-loop-holds Inv-loop μ-loop
+loop-holds c = (clearing-none _ _ _, refl)
+
+add-put : tie.Need-add-put Inv-loop μ-loop
+add-put c = omega arith
+
+put-requires : tie.Need-put-requires Inv-loop μ-loop
+put-requires c κs = search needs
+
+add-i : tie.Need-add-i Inv-loop μ-loop
+add-i c = omega arith
+
+loop-less : tie.Need-loop-less Inv-loop μ-loop
+loop-less c = omega arith
+
+loop-again : tie.Need-loop-again Inv-loop μ-loop
+loop-again c =
+    let args = c .before .before .before .before .before .before .before .before .before .args in
+    let wide = c .before .before .before .before .before .before .before .wide in
+    let wide2 = c .before .before .before .before .before .before .wide2 in
+    let loop = c .before .before .before .before .before .loop in
+    let loop-test = c .before .before .before .before .loop-test in
+    let put = c .before .before .put in
+    (clearing-more (args .mem .now) (wide .result) (wide2 .result) (loop .mem) _ (loop .i) (loop-test .taken) (loop .inv .0) (put .ensures), put .kept .0 ∙ loop .inv .1)
+
+same-length : tie.Need-same-length Inv-loop μ-loop
+same-length c = c .before .loop .inv .1
+
+returns : tie.Need-returns Inv-loop μ-loop
+returns c =
+    let args = c .before .before .before .before .before .args in
+    let wide = c .before .before .before .wide in
+    let wide2 = c .before .before .wide2 in
+    let loop = c .before .loop in
+    let loop-test = c .loop-test in
+    all-cleared (args .mem .now) (loop .mem) (args .at) (args .n) (wide .result) (wide2 .result) (loop .i) (wide .ensures) (wide2 .ensures) (loop-test .left) (loop .inv .0)
+
+pub clear-spec : {M : Type 1} → statement M
+clear-spec =
+    tie.close
+    (tie.spec
+    Inv-loop
+    μ-loop
+    wide-requires
+    wide-requires-2
+    loop-holds
+    add-put
+    put-requires
+    add-i
+    loop-less
+    loop-again
+    same-length
+    returns)

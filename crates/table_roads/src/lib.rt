@@ -1,0 +1,95 @@
+// The roads between the row vertices of a part: each lowers one word of the part's table.
+ghost use mathlib.Core.Path.{_≡_};
+ghost use Prim.Native.Nat.{suc, _≤_, _<_};
+ghost use lib.ListN.{length};
+ghost use Rattle.roads.specs.Map.{Map, partCount, roadCount};
+ghost use Rattle.parts.specs.Size.{sizeOf};
+ghost use Rattle.image.specs.Image.{firstRoadFrom};
+ghost use Rattle.assembly.specs.Laid.{Laid};
+ghost use Rattle.assembly.specs.Steps.{Noted, RoadsOf, Roads};
+use cells::put;
+use cells::wide;
+use cells::word;
+use table_words::line_of;
+use table_words::lower;
+use table_words::of_part;
+use table_words::of_row;
+use table_words::vertex_of;
+
+// The place of each row vertex of part p.
+pub fn note_rows(mem: &[u32], p: u32, place: &mut [u32])
+    ensures { λ r. ⌜ ((m : Map) → Laid m (now (mem .entry)) → p < partCount m → 4096 ≤ length (now (place .entry)) → Noted m p (sizeOf m p) (now (place .exit))) ⌝ }
+    ensures { λ r. ⌜ length (now (place .exit)) ≡ length (now (place .entry)) ⌝ }
+{
+    let size = of_part(mem, p, 1);
+    let first = of_part(mem, p, 2);
+    let mut i: u32 = 0;
+    while i < size {
+        let v = vertex_of(of_row(mem, first, i, 2));
+        put(place, wide(v), i);
+        i += 1;
+    }
+}
+
+// The number of the first road from vertex v or a later one.
+fn first_road(mem: &[u32], v: u32) -> u32
+    ensures { λ r. ⌜ ((m : Map) → Laid m (now (mem .entry)) → v ≤ m .vertices → r ≡ firstRoadFrom m v) ⌝ }
+{
+    if v < word(mem, 2) {
+        let vertices = 64 + 8 * wide(word(mem, 4));
+        return word(mem, vertices + 8 * wide(v) + 2);
+    }
+    word(mem, 3)
+}
+
+// Road r, where it leads from the vertex of row i of part p to that of another row. The noted place is tested.
+fn lower_by_road(mem: &mut [u32], place: &[u32], p: u32, i: u32, r: u32)
+    ensures { λ _. ⌜ ((m : Map) → Laid m (now (mem .entry)) → p < partCount m → i < sizeOf m p → r < roadCount m → Noted m p (sizeOf m p) (now (place .entry)) → RoadsOf m p i r (suc r) (now (mem .entry)) (now (mem .exit))) ⌝ }
+    ensures { λ _. ⌜ length (now (mem .exit)) ≡ length (now (mem .entry)) ⌝ }
+{
+    let road = 64 + 8 * wide(word(mem, 4)) + 8 * wide(word(mem, 2)) + 4 * wide(r);
+    let size = of_part(mem, p, 1);
+    let first = of_part(mem, p, 2);
+    let table = of_part(mem, p, 3);
+    let from = word(mem, road);
+    let to = word(mem, road + 1);
+    let weight = word(mem, road + 2);
+    let j = word(place, wide(to));
+    if from != vertex_of(of_row(mem, first, i, 2)) {
+        return;
+    }
+    if size <= j {
+        return;
+    }
+    if to != vertex_of(of_row(mem, first, j, 2)) {
+        return;
+    }
+    lower(mem, line_of(table, size, i) + wide(j), weight);
+}
+
+fn lower_by_roads(mem: &mut [u32], place: &[u32], p: u32, i: u32)
+    ensures { λ r. ⌜ ((m : Map) → Laid m (now (mem .entry)) → p < partCount m → i < sizeOf m p → Noted m p (sizeOf m p) (now (place .entry)) → RoadsOf m p i 0 (roadCount m) (now (mem .entry)) (now (mem .exit))) ⌝ }
+    ensures { λ r. ⌜ length (now (mem .exit)) ≡ length (now (mem .entry)) ⌝ }
+{
+    let first = of_part(mem, p, 2);
+    let v = vertex_of(of_row(mem, first, i, 2));
+    let mut r = first_road(mem, v);
+    let end = first_road(mem, v + 1);
+    while r < end {
+        lower_by_road(mem, place, p, i, r);
+        r += 1;
+    }
+}
+
+// All roads between row vertices of part p.
+pub fn take_roads(mem: &mut [u32], place: &[u32], p: u32)
+    ensures { λ r. ⌜ ((m : Map) → Laid m (now (mem .entry)) → p < partCount m → Noted m p (sizeOf m p) (now (place .entry)) → Roads m p (sizeOf m p) (now (mem .entry)) (now (mem .exit))) ⌝ }
+    ensures { λ r. ⌜ length (now (mem .exit)) ≡ length (now (mem .entry)) ⌝ }
+{
+    let size = of_part(mem, p, 1);
+    let mut i: u32 = 0;
+    while i < size {
+        lower_by_roads(mem, place, p, i);
+        i += 1;
+    }
+}

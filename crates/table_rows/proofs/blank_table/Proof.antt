@@ -1,0 +1,65 @@
+-- `table_rows::blank_table` meets its contract. The loop's invariant: 0 stands at the nodes passed of the diagonal, FAR elsewhere.
+-- Assumes nothing.
+use borrow.Author.Needs.{needs}
+use native.Mathlib.Omega.{arith}
+use Prim.Native.Nat.{_-_}
+use Rattle.table_rows.proofs.Rows.{Zeroing, zeroing-first, zeroing-room, zeroing-step, zeroing-done}
+use Rattle.table_rows.proofs.blank_table.Statement.{statement}
+use Rattle.table_rows.proofs.blank_table.Tie as tie
+
+abbrev Inv-loop : tie.InvT-loop
+Inv-loop table₀ n i₀ at₀ table i at = Zeroing n table₀ table i at
+
+abbrev μ-loop : tie.MeasureT-loop
+μ-loop table₀ n i₀ at₀ table i at = n - i
+
+fill-far-requires : tie.Need-fill-far-requires Inv-loop μ-loop
+fill-far-requires c κs = search needs
+
+loop-holds : tie.Need-loop-holds Inv-loop μ-loop
+loop-holds c = zeroing-first _ _ _ (search needs) (c .before .before .fill-far .ensures)
+
+add-table : tie.Need-add-table Inv-loop μ-loop
+add-table c = omega (arith, zeroing-room (c .before .loop .inv) (search needs))
+
+mul-table : tie.Need-mul-table Inv-loop μ-loop
+mul-table c = omega (arith, zeroing-room (c .before .loop .inv) (search needs))
+
+slice-write-table : tie.Need-slice-write-table Inv-loop μ-loop
+slice-write-table c = zeroing-room (c .before .loop .inv) (search needs)
+
+add-at : tie.Need-add-at Inv-loop μ-loop
+add-at c = omega (arith, zeroing-room (c .before .loop .inv) (search needs))
+
+add-i : tie.Need-add-i Inv-loop μ-loop
+add-i c = search needs
+
+loop-less : tie.Need-loop-less Inv-loop μ-loop
+loop-less c = search needs
+
+loop-again : tie.Need-loop-again Inv-loop μ-loop
+loop-again c = zeroing-step (c .before .loop .inv) (search needs)
+
+same-length : tie.Need-same-length Inv-loop μ-loop
+same-length c = search needs
+
+returns : tie.Need-returns Inv-loop μ-loop
+returns c = zeroing-done (c .before .loop .inv) (search needs)
+
+pub blank-table-spec : {M : Type 1} → statement M
+blank-table-spec =
+    tie.close
+    (tie.spec
+    Inv-loop
+    μ-loop
+    fill-far-requires
+    loop-holds
+    add-table
+    mul-table
+    slice-write-table
+    add-at
+    add-i
+    loop-less
+    loop-again
+    same-length
+    returns)

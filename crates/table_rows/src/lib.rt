@@ -1,0 +1,134 @@
+// Tables of weights, row after row: one node tried as a halt between every two, and a table blanked. Each works in place on a table that stands
+// anywhere in a memory, and leaves all other words.
+ghost use mathlib.Core.Path.{_≡_};
+ghost use Prim.Native.Nat.{_+_, _*_, _≤_, _<_, min};
+ghost use lib.ListN.{length, take};
+ghost use Rattle.table_rows.specs.Relax.{relaxRow};
+ghost use Rattle.table_rows.specs.Flat.{entry, through, blank, Holds, StartsWith, Whole, Tried, Blanked};
+use cells::wide;
+
+// The lesser of `t` and `x + d`, which is added only where it fits.
+fn lesser(t: u32, x: u32, d: u32) -> u32
+    ensures { λ r. ⌜ r ≡ min t (x + d) ⌝ }
+{
+    if x < t {
+        if d < t - x {
+            return x + d;
+        }
+    }
+    t
+}
+
+// The row `best` relaxed by `row`, which stands `x` away. Where that is no way, nothing is gained.
+fn relax_row(best: &mut [u32], row: &[u32], x: u32)
+    requires { ⌜ length (now best) ≤ length (now row) ⌝ }
+    ensures { λ r. ⌜ now (best .exit) ≡ relaxRow x (now (best .entry)) (now (row .entry)) ⌝ }
+{
+    if x == 4294967295 {
+        return;
+    }
+    let n = best.len();
+    let mut i = 0;
+    while i < n {
+        best[i] = lesser(best[i], x, row[i]);
+        i += 1;
+    }
+}
+
+// The first words of `row` are those of `from`.
+fn copy(row: &mut [u32], from: &[u32])
+    requires { ⌜ length (now from) ≤ length (now row) ⌝ }
+    ensures { λ r. ⌜ take (length (now (from .entry))) (now (row .exit)) ≡ now (from .entry) ⌝ }
+{
+    let n = from.len();
+    let mut i = 0;
+    while i < n {
+        row[i] = from[i];
+        i += 1;
+    }
+}
+
+// Every row of the table is relaxed by the row of `k`, of which `row` starts with a copy.
+fn try_node(table: &mut [u32], n: usize, k: usize, row: &[u32])
+    requires { ⌜ (k < n) × (n * n ≤ length (now table)) × StartsWith n k (now table) (now row) ⌝ }
+    ensures { λ r. ⌜ Holds n n (now (table .exit)) (through k (entry n (now (table .entry)))) ⌝ }
+{
+    let mut i = 0;
+    let mut at = 0;
+    while i < n {
+        let e = at + n;
+        let x = table[at + k];
+        relax_row(&mut table[at..e], row, x);
+        at = e;
+        i += 1;
+    }
+}
+
+// Node k is tried. A row cannot be lent while another is written, so that of k is copied first.
+fn try_table(table: &mut [u32], n: usize, k: usize)
+    requires { ⌜ (k < n) × (n ≤ 128) × (n * n ≤ length (now table)) ⌝ }
+    ensures { λ r. ⌜ Holds n n (now (table .exit)) (through k (entry n (now (table .entry)))) ⌝ }
+{
+    let mut row = [0u32; 128];
+    let start = n * k;
+    let stop = start + n;
+    copy(&mut row, &table[start..stop]);
+    try_node(table, n, k, &row);
+}
+
+fn fill_far(row: &mut [u32])
+    ensures { λ r. ⌜ Whole (λ j. 4294967295) (now (row .entry)) (now (row .exit)) ⌝ }
+{
+    let n = row.len();
+    let mut i = 0;
+    while i < n {
+        row[i] = 4294967295;
+        i += 1;
+    }
+}
+
+// FAR everywhere, and 0 from each node to itself.
+fn blank_table(table: &mut [u32], n: usize)
+    requires { ⌜ (n ≤ 128) × (n * n ≤ length (now table)) ⌝ }
+    ensures { λ r. ⌜ Holds n n (now (table .exit)) blank ⌝ }
+{
+    fill_far(table);
+    let mut i = 0;
+    let mut at = 0;
+    while i < n {
+        table[at + i] = 0;
+        at += n;
+        i += 1;
+    }
+}
+
+// Node k of the table of n nodes at `at` is tried.
+pub fn try_at(mem: &mut [u32], at: u32, n: u32, k: u32)
+    ensures { λ r. ⌜ Tried at n k (now (mem .entry)) (now (mem .exit)) ⌝ }
+{
+    let size = wide(n);
+    let node = wide(k);
+    let from = wide(at);
+    if size <= 128 {
+        if node < size {
+            let end = from + size * size;
+            if end <= mem.len() {
+                try_table(&mut mem[from..end], size, node);
+            }
+        }
+    }
+}
+
+// The table of n nodes at `at` is blanked.
+pub fn blank_at(mem: &mut [u32], at: u32, n: u32)
+    ensures { λ r. ⌜ Blanked at n (now (mem .entry)) (now (mem .exit)) ⌝ }
+{
+    let size = wide(n);
+    let from = wide(at);
+    if size <= 128 {
+        let end = from + size * size;
+        if end <= mem.len() {
+            blank_table(&mut mem[from..end], size);
+        }
+    }
+}

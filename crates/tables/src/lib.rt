@@ -1,0 +1,122 @@
+// The distance tables of all parts, in place. From the last part to the first each table is made right inside its part, from the roads between the
+// part's row vertices and the children's tables; then, from the first part to the last, each child's table becomes right over the whole map, by way
+// of its boundary vertices and the parent's table.
+ghost use mathlib.Core.Path.{_≡_};
+ghost use mathlib.Core.List.{List};
+ghost use Prim.Native.Nat.{ℕ, suc, _≤_, _<_};
+ghost use lib.ListN.{length};
+ghost use Rattle.roads.specs.Map.{Map, partCount};
+ghost use Rattle.parts.specs.Size.{sizeOf};
+ghost use Rattle.assembly.specs.Laid.{Laid, Filled};
+ghost use Rattle.assembly.specs.Lower.{Inside};
+ghost use Rattle.assembly.specs.Steps.{AtHome, Closed, EnteredRow, Entered, Risen, Descended};
+use cells::word;
+use table_pairs::agree;
+use table_roads::note_rows;
+use table_roads::take_roads;
+use table_rows::blank_at;
+use table_rows::try_at;
+use table_words::of_part;
+use table_words::of_row;
+use table_words::part_of;
+use table_words::place_of;
+
+// Every row vertex of part p is tried in its table.
+fn close(mem: &mut [u32], p: u32)
+    ensures { λ r. ⌜ ((m : Map) → Laid m (now (mem .entry)) → p < partCount m → AtHome m p (now (mem .entry)) → Closed m p (sizeOf m p) (now (mem .entry)) (now (mem .exit))) ⌝ }
+    ensures { λ r. ⌜ length (now (mem .exit)) ≡ length (now (mem .entry)) ⌝ }
+{
+    let size = of_part(mem, p, 1);
+    let table = of_part(mem, p, 3);
+    let mut k: u32 = 0;
+    while k < size {
+        try_at(mem, table, size, k);
+        k += 1;
+    }
+}
+
+// The table of part p, right inside the part, where those of the later parts are.
+fn rise(mem: &mut [u32], place: &mut [u32], p: u32)
+    ensures { λ r. ⌜ ((m : Map) → Laid m (now (mem .entry)) → p < partCount m → 4096 ≤ length (now (place .entry)) → Inside m (suc p) (now (mem .entry)) → Risen m p (now (mem .entry)) (now (mem .exit))) ⌝ }
+    ensures { λ r. ⌜ length (now (mem .exit)) ≡ length (now (mem .entry)) ⌝ }
+    ensures { λ r. ⌜ length (now (place .exit)) ≡ length (now (place .entry)) ⌝ }
+{
+    let size = of_part(mem, p, 1);
+    let table = of_part(mem, p, 3);
+    blank_at(mem, table, size);
+    note_rows(mem, p, place);
+    take_roads(mem, place, p);
+    agree(mem, p);
+    close(mem, p);
+}
+
+fn rise_parts(mem: &mut [u32], place: &mut [u32])
+    ensures { λ r. ⌜ ((m : Map) → Laid m (now (mem .entry)) → 4096 ≤ length (now (place .entry)) → Risen m 0 (now (mem .entry)) (now (mem .exit))) ⌝ }
+    ensures { λ r. ⌜ length (now (mem .exit)) ≡ length (now (mem .entry)) ⌝ }
+{
+    let mut p = word(mem, 4);
+    while 0 < p {
+        p -= 1;
+        rise(mem, place, p);
+    }
+}
+
+// The vertex of row i of part p is tried in the table of the child that holds it.
+fn enter_row(mem: &mut [u32], p: u32, i: u32)
+    ensures { λ r. ⌜ ((m : Map) → Laid m (now (mem .entry)) → p < partCount m → i < sizeOf m p → Inside m 0 (now (mem .entry)) → EnteredRow m p i (now (mem .entry)) (now (mem .exit))) ⌝ }
+    ensures { λ r. ⌜ length (now (mem .exit)) ≡ length (now (mem .entry)) ⌝ }
+{
+    let first = of_part(mem, p, 2);
+    let c = part_of(of_row(mem, first, i, 2));
+    if c == 0 {
+        return;
+    }
+    let size_below = of_part(mem, c, 1);
+    let first_below = of_part(mem, c, 2);
+    let table_below = of_part(mem, c, 3);
+    let k = place_of(of_row(mem, first, i, 3), first_below);
+    try_at(mem, table_below, size_below, k);
+}
+
+fn enter_rows(mem: &mut [u32], p: u32)
+    ensures { λ r. ⌜ ((m : Map) → Laid m (now (mem .entry)) → p < partCount m → Inside m 0 (now (mem .entry)) → Entered m p (sizeOf m p) (now (mem .entry)) (now (mem .exit))) ⌝ }
+    ensures { λ r. ⌜ length (now (mem .exit)) ≡ length (now (mem .entry)) ⌝ }
+{
+    let size = of_part(mem, p, 1);
+    let mut i: u32 = 0;
+    while i < size {
+        enter_row(mem, p, i);
+        i += 1;
+    }
+}
+
+// The tables of the children of part p, right over the whole map, where that of p is.
+fn descend(mem: &mut [u32], p: u32)
+    ensures { λ r. ⌜ ((m : Map) (start : List ℕ) → Laid m start → p < partCount m → Descended m p start (now (mem .entry)) → Descended m (suc p) start (now (mem .exit))) ⌝ }
+    ensures { λ r. ⌜ length (now (mem .exit)) ≡ length (now (mem .entry)) ⌝ }
+{
+    agree(mem, p);
+    enter_rows(mem, p);
+}
+
+fn descend_parts(mem: &mut [u32])
+    ensures { λ r. ⌜ ((m : Map) (start : List ℕ) → Laid m start → Descended m 0 start (now (mem .entry)) → Descended m (partCount m) start (now (mem .exit))) ⌝ }
+    ensures { λ r. ⌜ length (now (mem .exit)) ≡ length (now (mem .entry)) ⌝ }
+{
+    let count = word(mem, 4);
+    let mut p: u32 = 0;
+    while p < count {
+        descend(mem, p);
+        p += 1;
+    }
+}
+
+// All tables of a memory whose other sections stand.
+pub fn fill_tables(mem: &mut [u32])
+    ensures { λ r. ⌜ ((m : Map) → Laid m (now (mem .entry)) → Filled m (now (mem .entry)) (now (mem .exit))) ⌝ }
+    ensures { λ r. ⌜ length (now (mem .exit)) ≡ length (now (mem .entry)) ⌝ }
+{
+    let mut place = [0u32; 4096];
+    rise_parts(mem, &mut place);
+    descend_parts(mem);
+}

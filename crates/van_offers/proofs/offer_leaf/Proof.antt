@@ -1,0 +1,88 @@
+-- `offer_leaf` offers what each row's vertex offers, one row after the other.
+-- Assumes nothing.
+use mathlib.Core.Path.{_≡_, refl, ap}
+use mathlib.Core.Logic.{inl, inr}
+use Prim.Native.Nat.{ℕ, _-_, _%_, _≤_, _<_}
+use native.Mathlib.Nat.{sub-zero}
+use native.Mathlib.Omega.{arith}
+use Rattle.best_list.specs.Best.{entries, offeredAll}
+use Rattle.van_offers.specs.Offers.{stampIn, leafOffers}
+use Rattle.van_offers.proofs.Steps.{leaf-skips, leaf-offers, leaf-done}
+use borrow.Author.Needs.{needs}
+use Rattle.van_offers.proofs.offer_leaf.Statement.{statement}
+use Rattle.van_offers.proofs.offer_leaf.Tie as tie
+
+abbrev Inv-loop : tie.InvT-loop
+Inv-loop mem counts first size dx k list₀ i₀ list i = (list .len ≤ k) × (offeredAll k (entries (stampIn mem counts) (list .fars) (list .vans) (list .len)) (leafOffers mem counts first dx (size - i) i) ≡ offeredAll k (entries (stampIn mem counts) (list₀ .fars) (list₀ .vans) (list₀ .len)) (leafOffers mem counts first dx size 0))
+
+abbrev μ-loop : tie.MeasureT-loop
+μ-loop mem counts first size dx k list₀ i₀ list i = size - i
+
+loop-holds : tie.Need-loop-holds Inv-loop μ-loop
+loop-holds c = (omega arith, rw sub-zero)
+
+mul-word : tie.Need-mul-word Inv-loop μ-loop
+mul-word c = search needs
+
+add-word : tie.Need-add-word Inv-loop μ-loop
+add-word c = search needs
+
+add-word-2 : tie.Need-add-word-2 Inv-loop μ-loop
+add-word-2 c = search needs
+
+word-requires : tie.Need-word-requires Inv-loop μ-loop
+word-requires c κs = search needs
+
+wide-requires : tie.Need-wide-requires Inv-loop μ-loop
+wide-requires c κs = search needs
+
+word-requires-2 : tie.Need-word-requires-2 Inv-loop μ-loop
+word-requires-2 c κs = search needs
+
+vertex-word-requires : tie.Need-vertex-word-requires Inv-loop μ-loop
+vertex-word-requires c κs = search needs
+
+offer-vans-requires : tie.Need-offer-vans-requires Inv-loop μ-loop
+offer-vans-requires c κs = search needs
+
+add-i : tie.Need-add-i Inv-loop μ-loop
+add-i c = search needs
+
+loop-less : tie.Need-loop-less Inv-loop μ-loop
+loop-less c = search needs
+
+loop-again : tie.Need-loop-again Inv-loop μ-loop
+loop-again c =
+    elim (c .if1 .came) [
+      | inl t ↦ rw (t .3) (
+        t .2 .ensures .0,
+        leaf-offers _ _ _ _ _ _ _ (c .before .before .before .before .loop-test .taken) _ _ (c .before .before .before .before .before .loop .inv .1) (ap (λ (w : ℕ). w % 65536) (c .before .before .before .word .ensures)) (c .before .before .wide .ensures) (c .before .word2 .ensures) (t .0 .taken) (t .1 .ensures) (t .2 .ensures .1),
+      )
+      | inr t ↦ rw (t .1) (
+        c .before .before .before .before .before .loop .inv .0,
+        leaf-skips _ _ _ _ _ _ _ (c .before .before .before .before .loop-test .taken) _ _ (c .before .before .before .before .before .loop .inv .1) (ap (λ (w : ℕ). w % 65536) (c .before .before .before .word .ensures)) (c .before .before .wide .ensures) (c .before .word2 .ensures) (t .0 .left),
+      )
+    ]
+
+returns : tie.Need-returns Inv-loop μ-loop
+returns c = (c .before .loop .inv .0, leaf-done _ _ _ _ _ _ _ (c .loop-test .left) _ _ (c .before .loop .inv .1))
+
+pub offer-leaf-spec : {M : Type 1} → statement M
+offer-leaf-spec =
+    tie.close
+    (tie.spec
+    Inv-loop
+    μ-loop
+    loop-holds
+    mul-word
+    add-word
+    add-word-2
+    word-requires
+    wide-requires
+    word-requires-2
+    vertex-word-requires
+    offer-vans-requires
+    add-i
+    loop-less
+    loop-again
+    returns)

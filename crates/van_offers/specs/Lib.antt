@@ -1,0 +1,2 @@
+-- What a list of vans, and a leaf, offer to the list of the best.
+pub mod Offers
