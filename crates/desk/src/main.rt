@@ -132,7 +132,15 @@ fn list(answer: &[u32; 96], out: &mut [u8], at: usize, place: u32, count: u32) -
     end
 }
 
-fn question(memory: &[u32; 16384], answer: &mut [u32; 96], out: &mut [u8], at: usize, place: u32, vertex: u32, k: u32) -> usize
+fn question(
+    memory: &[u32; 16384],
+    answer: &mut [u32; 96],
+    out: &mut [u8],
+    at: usize,
+    place: u32,
+    vertex: u32,
+    k: u32,
+) -> usize
     requires { ⌜ (at ≤ length (now out)) × (length (now out) ≤ 65536) ⌝ }
     ensures { λ r. ⌜ r ≤ length (now (out .entry)) ⌝ }
 {
@@ -145,7 +153,14 @@ fn question(memory: &[u32; 16384], answer: &mut [u32; 96], out: &mut [u8], at: u
 }
 
 // One call.
-fn serve(memory: &mut [u32; 16384], answer: &mut [u32; 96], out: &mut [u8], at: usize, place: u32, call: Call) -> usize
+fn serve(
+    memory: &mut [u32; 16384],
+    answer: &mut [u32; 96],
+    out: &mut [u8],
+    at: usize,
+    place: u32,
+    call: Call,
+) -> usize
     requires { ⌜ (at ≤ length (now out)) × (length (now out) ≤ 65536) ⌝ }
     ensures { λ r. ⌜ r ≤ length (now (out .entry)) ⌝ }
 {
@@ -183,7 +198,14 @@ fn refuse(number: u32) {
 }
 
 // The record for `place`: a call, or what ends the program. A call after the last that is allowed is bad.
-fn turn(input: &mut [u8], memory: &mut [u32; 16384], answer: &mut [u32; 96], out: &mut [u8], s: State, place: u32) -> State
+fn turn(
+    input: &mut [u8],
+    memory: &mut [u32; 16384],
+    answer: &mut [u32; 96],
+    out: &mut [u8],
+    s: State,
+    place: u32,
+) -> State
     requires { ⌜ Stands s (length (now input)) (length (now out)) × (1 ≤ place) ⌝ }
     ensures { λ r. ⌜ Stands r (length (now (input .entry))) (length (now (out .entry))) ⌝ }
 {
@@ -268,7 +290,13 @@ fn drained(out: &[u8], s: State) -> State
     s
 }
 
-fn run(input: &mut [u8], memory: &mut [u32; 16384], answer: &mut [u32; 96], out: &mut [u8], start: State)
+fn run(
+    input: &mut [u8],
+    memory: &mut [u32; 16384],
+    answer: &mut [u32; 96],
+    out: &mut [u8],
+    start: State,
+)
     requires { ⌜ Stands start (length (now input)) (length (now out)) ⌝ }
 {
     let mut s = start;
@@ -333,28 +361,43 @@ fn open(input: &mut [u8], counts: Counts, end: usize, to: usize)
     }
 }
 
-fn main() {
-    let mut input = [0u8; 65552];
-    let to = io::read_full(STDIN_FILENO, &mut input);
-    let end = match take_map(&input[..to]) {
-        Taken::TooLong => {
-            refuse(5);
-            return;
-        }
-        Taken::UpTo(end) => end,
-    };
-    let mut map_end = end;
-    if to < map_end {
-        map_end = to;
-    }
-    match judge_map(&input[..map_end]) {
+// The map, `end` bytes long, judged before the opening record is looked at.
+fn judge(input: &mut [u8], end: usize, to: usize)
+    requires { ⌜ (end ≤ to) × (to ≤ length (now input)) ⌝ }
+{
+    match judge_map(&input[..end]) {
         Judgement::Refused(number) => refuse(number),
         Judgement::Sound(counts, need) => {
             if MEMORY_WORDS < need {
                 refuse(5);
                 return;
             }
-            open(&mut input, counts, map_end, to);
+            open(input, counts, end, to);
         }
     }
+}
+
+fn least(a: usize, b: usize) -> usize
+    ensures { λ r. ⌜ r ≤ b ⌝ }
+{
+    if a < b {
+        return a;
+    }
+    b
+}
+
+// The map is the first four records, or all of the input where it ends sooner.
+fn start(input: &mut [u8], to: usize)
+    requires { ⌜ to ≤ length (now input) ⌝ }
+{
+    match take_map(&input[..to]) {
+        Taken::TooLong => refuse(5),
+        Taken::UpTo(end) => judge(input, least(end, to), to),
+    }
+}
+
+fn main() {
+    let mut input = [0u8; 65552];
+    let to = io::read_full(STDIN_FILENO, &mut input);
+    start(&mut input, to);
 }

@@ -5,6 +5,13 @@ use fleet::Change;
 ghost use Rattle.answers.specs.Answered.{answered};
 ghost use Rattle.calls.specs.Outcome.{Opened, Added, Moved, Removed, Claimed, Released, Asked};
 
+// Opens the map: its distances and empty rows stand in the memory, the fleet is empty and the change count is the start number.
+pub fn open(map: &[u8], memory: &mut [u32], start: u32) -> Reply
+    ensures { λ r. ⌜ Opened (now (map .entry)) (now (memory .entry)) start (answered r) (now (memory .exit)) ⌝ }
+{
+    opening::open(map, memory, start)
+}
+
 // Places a free van.
 pub fn add(memory: &mut [u32], van: u32, from: u32, to: u32, offset: u32) -> Reply
     ensures { λ r. ⌜ Added (now (memory .entry)) van from to offset (answered r) (now (memory .exit)) ⌝ }
@@ -56,11 +63,9 @@ pub fn release(memory: &mut [u32], van: u32, desk: u32) -> Reply
     changes::change(memory, Change::Release { van, desk })
 }
 
-
-pub fn open(map: &[u8], memory: &mut [u32], start: u32) -> Reply {
-    Reply::TooSmall
-}
-
-pub fn question(memory: &[u32], vertex: u32, k: u32, answer: &mut [u32]) -> Reply {
-    Reply::TooSmall
+// Lists the nearest k free vans that can reach the vertex: van, distance and stamp, three words each.
+pub fn question(memory: &[u32], vertex: u32, k: u32, answer: &mut [u32]) -> Reply
+    ensures { λ r. ⌜ Asked (now (memory .entry)) vertex k (now (answer .entry)) (answered r) (now (answer .exit)) ⌝ }
+{
+    ask::question(memory, vertex, k, answer)
 }

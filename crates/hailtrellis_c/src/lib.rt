@@ -29,14 +29,26 @@ pub extern "C" fn hailtrellis_open(map: &[u8], memory: &mut [u32], start: u32) -
 }
 
 #[no_mangle]
-pub extern "C" fn hailtrellis_add(memory: &mut [u32], van: u32, from: u32, to: u32, offset: u32) -> HailtrellisReply
+pub extern "C" fn hailtrellis_add(
+    memory: &mut [u32],
+    van: u32,
+    from: u32,
+    to: u32,
+    offset: u32,
+) -> HailtrellisReply
     ensures { λ r. ⌜ Replied (λ a. Added (now (memory .entry)) van from to offset a (now (memory .exit))) r ⌝ }
 {
     replied(hailtrellis::add(memory, van, from, to, offset))
 }
 
 #[no_mangle]
-pub extern "C" fn hailtrellis_move(memory: &mut [u32], van: u32, from: u32, to: u32, offset: u32) -> HailtrellisReply
+pub extern "C" fn hailtrellis_move(
+    memory: &mut [u32],
+    van: u32,
+    from: u32,
+    to: u32,
+    offset: u32,
+) -> HailtrellisReply
     ensures { λ r. ⌜ Replied (λ a. Moved (now (memory .entry)) van from to offset a (now (memory .exit))) r ⌝ }
 {
     replied(hailtrellis::move_van(memory, van, from, to, offset))
@@ -50,7 +62,12 @@ pub extern "C" fn hailtrellis_remove(memory: &mut [u32], van: u32) -> Hailtrelli
 }
 
 #[no_mangle]
-pub extern "C" fn hailtrellis_claim(memory: &mut [u32], van: u32, stamp: u32, desk: u32) -> HailtrellisReply
+pub extern "C" fn hailtrellis_claim(
+    memory: &mut [u32],
+    van: u32,
+    stamp: u32,
+    desk: u32,
+) -> HailtrellisReply
     ensures { λ r. ⌜ Replied (λ a. Claimed (now (memory .entry)) van stamp desk a (now (memory .exit))) r ⌝ }
 {
     replied(hailtrellis::claim(memory, van, stamp, desk))
@@ -64,7 +81,12 @@ pub extern "C" fn hailtrellis_release(memory: &mut [u32], van: u32, desk: u32) -
 }
 
 #[no_mangle]
-pub extern "C" fn hailtrellis_question(memory: &[u32], vertex: u32, k: u32, answer: &mut [u32]) -> HailtrellisReply
+pub extern "C" fn hailtrellis_question(
+    memory: &[u32],
+    vertex: u32,
+    k: u32,
+    answer: &mut [u32],
+) -> HailtrellisReply
     ensures { λ r. ⌜ Replied (λ a. Asked (now (memory .entry)) vertex k (now (answer .entry)) a (now (answer .exit))) r ⌝ }
 {
     replied(hailtrellis::question(memory, vertex, k, answer))
