@@ -7,6 +7,9 @@ fn main() {
     println!("cargo:rustc-link-search=native={}", archives.display());
     for name in ["road_search_c"] {
         println!("cargo:rustc-link-lib=static={name}");
-        println!("cargo:rerun-if-changed={}", archives.join(format!("lib{name}.a")).display());
+        println!(
+            "cargo:rerun-if-changed={}",
+            archives.join(format!("lib{name}.a")).display()
+        );
     }
 }

@@ -27,10 +27,27 @@ extern "C" {
 }
 
 /// The proved search; it tests the words itself.
-fn proved(words: &RoadWords, n: usize, count: usize, a: usize, labels: &mut [u32; VERTICES]) -> bool {
+fn proved(
+    words: &RoadWords,
+    n: usize,
+    count: usize,
+    a: usize,
+    labels: &mut [u32; VERTICES],
+) -> bool {
     let mem = &words.words;
     // the archive's function takes a slice as a pointer and a length, and an array as a pointer
-    unsafe { hailtrellis_road_search(mem.as_ptr(), mem.len(), words.vertices_at, n, words.roads_at, count, a, labels) }
+    unsafe {
+        hailtrellis_road_search(
+            mem.as_ptr(),
+            mem.len(),
+            words.vertices_at,
+            n,
+            words.roads_at,
+            count,
+            a,
+            labels,
+        )
+    }
 }
 
 /// A network as Dijkstra's algorithm likes it: the roads out of a vertex stand together, with nothing else between them.
@@ -44,12 +61,21 @@ impl Graph {
         let first = (0..=network.vertices())
             .map(|v| network.roads.partition_point(|r| (r.from as usize) < v) as u32)
             .collect();
-        let out = network.roads.iter().map(|r| (u32::from(r.to), r.weight)).collect();
+        let out = network
+            .roads
+            .iter()
+            .map(|r| (u32::from(r.to), r.weight))
+            .collect();
         Graph { first, out }
     }
 }
 
-fn dijkstra(graph: &Graph, a: usize, labels: &mut [u32], heap: &mut BinaryHeap<Reverse<(u32, u32)>>) {
+fn dijkstra(
+    graph: &Graph,
+    a: usize,
+    labels: &mut [u32],
+    heap: &mut BinaryHeap<Reverse<(u32, u32)>>,
+) {
     labels.fill(FAR);
     labels[a] = 0;
     heap.clear();

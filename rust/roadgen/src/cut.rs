@@ -1,7 +1,9 @@
 //! Cuts a network into a tree of parts: halves by a line across the longer or the shorter side, again and again, and then parts are
 //! handed up to their grandparent while it keeps within its limits.
 
-use crate::{Map, Network, MOST_BORDERS, MOST_CHILDREN, MOST_IN_LEAF, MOST_LEVELS, MOST_PARTS, NO_PARENT};
+use crate::{
+    Map, Network, MOST_BORDERS, MOST_CHILDREN, MOST_IN_LEAF, MOST_LEVELS, MOST_PARTS, NO_PARENT,
+};
 
 struct Part {
     vertices: Vec<usize>,
@@ -30,7 +32,11 @@ impl Cutter<'_> {
         let count = sets
             .iter()
             .flat_map(|set| set.iter())
-            .filter(|&&v| neighbours[v].iter().any(|&u| mark[u] < first || mark[u] != mark[v]))
+            .filter(|&&v| {
+                neighbours[v]
+                    .iter()
+                    .any(|&u| mark[u] < first || mark[u] != mark[v])
+            })
             .count();
         count
     }
@@ -43,7 +49,11 @@ impl Cutter<'_> {
             let mut order = vertices.to_vec();
             order.sort_by_key(|&v| {
                 let (x, y) = self.network.places[v];
-                if side == 0 { (x, y) } else { (y, x) }
+                if side == 0 {
+                    (x, y)
+                } else {
+                    (y, x)
+                }
             });
             let (low, high) = (n * 2 / 5, n - n * 2 / 5);
             let step = ((high - low) / 12).max(1);
@@ -53,7 +63,10 @@ impl Cutter<'_> {
                     let (a, b) = order.split_at(at);
                     let borders = self.borders(&[a, b]);
                     let off = at.abs_diff(n / 2);
-                    if best.as_ref().is_none_or(|(least, far, _, _)| (borders, off) < (*least, *far)) {
+                    if best
+                        .as_ref()
+                        .is_none_or(|(least, far, _, _)| (borders, off) < (*least, *far))
+                    {
                         best = Some((borders, off, order.clone(), at));
                     }
                 }
@@ -67,20 +80,31 @@ impl Cutter<'_> {
 
     fn part(&mut self, vertices: Vec<usize>) -> Part {
         if vertices.len() <= MOST_IN_LEAF {
-            return Part { vertices, children: Vec::new() };
+            return Part {
+                vertices,
+                children: Vec::new(),
+            };
         }
         let (a, b) = self.halves(&vertices);
         let mut children = vec![self.part(a), self.part(b)];
         // a child's children in its place, while the borders stay within a little more than half of the limit
         while let Some(i) = (0..children.len()).find(|&i| {
             let child = &children[i];
-            if child.children.is_empty() || children.len() - 1 + child.children.len() > MOST_CHILDREN / 2 {
+            if child.children.is_empty()
+                || children.len() - 1 + child.children.len() > MOST_CHILDREN / 2
+            {
                 return false;
             }
             let sets: Vec<&[usize]> = children
                 .iter()
                 .enumerate()
-                .flat_map(|(j, c)| if j == i { c.children.iter().collect::<Vec<_>>() } else { vec![c] })
+                .flat_map(|(j, c)| {
+                    if j == i {
+                        c.children.iter().collect::<Vec<_>>()
+                    } else {
+                        vec![c]
+                    }
+                })
                 .map(|c| c.vertices.as_slice())
                 .collect();
             self.borders(&sets) <= MOST_BORDERS * 5 / 8
@@ -100,9 +124,18 @@ pub fn cut(network: &Network) -> Option<Map> {
         neighbours[road.from as usize].push(road.to as usize);
         neighbours[road.to as usize].push(road.from as usize);
     }
-    let mut cutter = Cutter { network, neighbours, mark: vec![0; n], marks: 0 };
+    let mut cutter = Cutter {
+        network,
+        neighbours,
+        mark: vec![0; n],
+        marks: 0,
+    };
     let whole = cutter.part((0..n).collect());
-    let mut map = Map { parents: Vec::new(), leaves: vec![0; n], roads: network.roads.clone() };
+    let mut map = Map {
+        parents: Vec::new(),
+        leaves: vec![0; n],
+        roads: network.roads.clone(),
+    };
     // level by level, so that a parent has a lower number than its children
     let mut level = vec![(&whole, NO_PARENT)];
     let mut levels = 0;
@@ -117,7 +150,11 @@ pub fn cut(network: &Network) -> Option<Map> {
                     map.leaves[v] = number;
                 }
             } else {
-                let sets: Vec<&[usize]> = part.children.iter().map(|c| c.vertices.as_slice()).collect();
+                let sets: Vec<&[usize]> = part
+                    .children
+                    .iter()
+                    .map(|c| c.vertices.as_slice())
+                    .collect();
                 if cutter.borders(&sets) > MOST_BORDERS {
                     return None;
                 }
@@ -153,5 +190,7 @@ pub fn borders(map: &Map) -> Vec<usize> {
             }
         }
     }
-    (0..parts).map(|p| is_border.iter().filter(|of| of[p]).count()).collect()
+    (0..parts)
+        .map(|p| is_border.iter().filter(|of| of[p]).count())
+        .collect()
 }

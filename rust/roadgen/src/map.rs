@@ -19,12 +19,21 @@ fn record(bytes: &mut Vec<u8>, kind: u16, body: &[u8]) {
 impl Map {
     /// The four records: counts, parents, leaves, roads.
     pub fn bytes(&self) -> Vec<u8> {
-        let two = |numbers: &[u16]| numbers.iter().flat_map(|x| x.to_le_bytes()).collect::<Vec<u8>>();
+        let two = |numbers: &[u16]| {
+            numbers
+                .iter()
+                .flat_map(|x| x.to_le_bytes())
+                .collect::<Vec<u8>>()
+        };
         let mut bytes = Vec::new();
         record(
             &mut bytes,
             1,
-            &two(&[self.leaves.len() as u16, self.roads.len() as u16, self.parents.len() as u16]),
+            &two(&[
+                self.leaves.len() as u16,
+                self.roads.len() as u16,
+                self.parents.len() as u16,
+            ]),
         );
         record(&mut bytes, 2, &two(&self.parents));
         record(&mut bytes, 3, &two(&self.leaves));
@@ -60,7 +69,11 @@ pub fn road_words(network: &Network) -> RoadWords {
         words[roads_at + 4 * i + 1] = u32::from(road.to);
         words[roads_at + 4 * i + 2] = road.weight;
     }
-    RoadWords { words, vertices_at: 0, roads_at }
+    RoadWords {
+        words,
+        vertices_at: 0,
+        roads_at,
+    }
 }
 
 /// A van's place: on a road, with an offset left to its end.
@@ -77,7 +90,11 @@ pub fn fleet(roads: &[Road], count: usize, seed: u64) -> Vec<Place> {
     (0..count)
         .map(|_| {
             let road = roads[random.below(roads.len() as u64) as usize];
-            Place { from: road.from, to: road.to, offset: random.below(u64::from(road.weight) + 1) as u32 }
+            Place {
+                from: road.from,
+                to: road.to,
+                offset: random.below(u64::from(road.weight) + 1) as u32,
+            }
         })
         .collect()
 }

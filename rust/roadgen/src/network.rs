@@ -93,7 +93,9 @@ pub fn network(plan: Plan, seed: u64) -> Network {
     let random = &mut Random::new(seed);
     let n = plan.vertices;
     let columns = (1..).find(|c| c * c >= n).unwrap_or(1);
-    let jitter = |random: &mut Random| random.below(plan.spacing as u64 * 3 / 5 + 1) as i64 - plan.spacing * 3 / 10;
+    let jitter = |random: &mut Random| {
+        random.below(plan.spacing as u64 * 3 / 5 + 1) as i64 - plan.spacing * 3 / 10
+    };
     let places: Vec<(i64, i64)> = (0..n)
         .map(|v| {
             let x = (v % columns) as i64 * plan.spacing + jitter(random);
@@ -107,11 +109,24 @@ pub fn network(plan: Plan, seed: u64) -> Network {
     let mut roads = Vec::new();
     let mut lay = |random: &mut Random, street: &Street, one_way: u64| {
         // a slow street weighs up to three times its length
-        let weight = (street.length * (100 + random.below(201) as i64) / 100).clamp(1, i64::from(MOST_WEIGHT)) as u32;
-        let (a, b) = if random.chance(50) { (street.a, street.b) } else { (street.b, street.a) };
-        roads.push(Road { from: a as u16, to: b as u16, weight });
+        let weight = (street.length * (100 + random.below(201) as i64) / 100)
+            .clamp(1, i64::from(MOST_WEIGHT)) as u32;
+        let (a, b) = if random.chance(50) {
+            (street.a, street.b)
+        } else {
+            (street.b, street.a)
+        };
+        roads.push(Road {
+            from: a as u16,
+            to: b as u16,
+            weight,
+        });
         if !random.chance(one_way) {
-            roads.push(Road { from: b as u16, to: a as u16, weight });
+            roads.push(Road {
+                from: b as u16,
+                to: a as u16,
+                weight,
+            });
         }
         roads.len()
     };

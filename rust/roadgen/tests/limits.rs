@@ -9,7 +9,11 @@ fn check(vertices: usize, seed: u64) {
         assert!((pair[0].from, pair[0].to) < (pair[1].from, pair[1].to));
     }
     for road in &network.roads {
-        assert!((road.from as usize) < vertices && (road.to as usize) < vertices && road.from != road.to);
+        assert!(
+            (road.from as usize) < vertices
+                && (road.to as usize) < vertices
+                && road.from != road.to
+        );
         assert!((1..=MOST_WEIGHT).contains(&road.weight));
     }
     let map = cut(&network).expect("the cuts keep within the limits");
@@ -36,13 +40,21 @@ fn check(vertices: usize, seed: u64) {
         } else {
             assert!((2..=MOST_CHILDREN).contains(&children[p]));
             assert_eq!(held[p], 0);
-            assert!(borders[p] <= MOST_BORDERS, "part {p} has {} borders", borders[p]);
+            assert!(
+                borders[p] <= MOST_BORDERS,
+                "part {p} has {} borders",
+                borders[p]
+            );
         }
     }
     let records = 4 + 8 + 4 + 2 + 2 * parts + 4 + 2 + 2 * vertices + 4 + 2 + 8 * map.roads.len();
     assert_eq!(map.bytes().len(), records);
     for place in fleet(&map.roads, 100, seed) {
-        let road = map.roads.iter().find(|r| r.from == place.from && r.to == place.to).expect("a van stands on a road");
+        let road = map
+            .roads
+            .iter()
+            .find(|r| r.from == place.from && r.to == place.to)
+            .expect("a van stands on a road");
         assert!(place.offset <= road.weight);
     }
 }
