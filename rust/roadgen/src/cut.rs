@@ -12,6 +12,8 @@ struct Part {
 
 struct Cutter<'a> {
     network: &'a Network,
+    /// equal halves down to small leaves, every part kept
+    finely: bool,
     neighbours: Vec<Vec<usize>>,
     /// the set that a vertex is in while borders are counted
     mark: Vec<usize>,
@@ -41,7 +43,8 @@ impl Cutter<'_> {
         count
     }
 
-    /// The two halves with the fewest borders, among lines across both sides that leave neither half below two fifths.
+    /// The two halves with the fewest borders, among lines across both sides that leave neither half below two fifths (when cut finely,
+    /// that leave equal halves).
     fn halves(&mut self, vertices: &[usize]) -> (Vec<usize>, Vec<usize>) {
         let n = vertices.len();
         let mut best: Option<(usize, usize, Vec<usize>, usize)> = None;
@@ -55,7 +58,11 @@ impl Cutter<'_> {
                     (y, x)
                 }
             });
-            let (low, high) = (n * 2 / 5, n - n * 2 / 5);
+            let (low, high) = if self.finely {
+                (n / 2, n / 2)
+            } else {
+                (n * 2 / 5, n - n * 2 / 5)
+            };
             let step = ((high - low) / 12).max(1);
             let mut at = n / 2 - (n / 2 - low) / step * step;
             while at <= high {
@@ -79,7 +86,12 @@ impl Cutter<'_> {
     }
 
     fn part(&mut self, vertices: Vec<usize>) -> Part {
-        if vertices.len() <= MOST_IN_LEAF {
+        let most = if self.finely {
+            MOST_IN_LEAF / 2
+        } else {
+            MOST_IN_LEAF
+        };
+        if vertices.len() <= most {
             return Part {
                 vertices,
                 children: Vec::new(),
@@ -87,6 +99,9 @@ impl Cutter<'_> {
         }
         let (a, b) = self.halves(&vertices);
         let mut children = vec![self.part(a), self.part(b)];
+        if self.finely {
+            return Part { vertices, children };
+        }
         // a child's children in its place, while the borders stay within a little more than half of the limit
         while let Some(i) = (0..children.len()).find(|&i| {
             let child = &children[i];
@@ -118,6 +133,16 @@ impl Cutter<'_> {
 
 /// The map of a network, or nothing where the cuts do not keep within the limits of a map.
 pub fn cut(network: &Network) -> Option<Map> {
+    cut_so(network, false)
+}
+
+/// The map of a network cut into equal halves again and again, down to leaves of at most half their limit: with 4,096 vertices one part
+/// fewer than a map may have.
+pub fn cut_finely(network: &Network) -> Option<Map> {
+    cut_so(network, true)
+}
+
+fn cut_so(network: &Network, finely: bool) -> Option<Map> {
     let n = network.vertices();
     let mut neighbours = vec![Vec::new(); n];
     for road in &network.roads {
@@ -126,6 +151,7 @@ pub fn cut(network: &Network) -> Option<Map> {
     }
     let mut cutter = Cutter {
         network,
+        finely,
         neighbours,
         mark: vec![0; n],
         marks: 0,

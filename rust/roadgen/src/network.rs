@@ -1,6 +1,6 @@
 //! A planar, partly one-way network on a jittered grid.
 
-use crate::{Random, MOST_WEIGHT};
+use crate::{Random, MOST_ROADS, MOST_WEIGHT};
 
 #[derive(Clone, Copy, Debug, PartialEq, Eq, PartialOrd, Ord)]
 pub struct Road {
@@ -45,6 +45,15 @@ impl Plan {
             one_way: 65,
             cut_off: 0,
             spacing: 20_000,
+        }
+    }
+
+    /// The largest map: 4,096 vertices with as many roads as a map may have.
+    pub fn largest() -> Self {
+        Plan {
+            roads: MOST_ROADS,
+            one_way: 50,
+            ..Plan::town(4_096)
         }
     }
 }
@@ -147,7 +156,13 @@ pub fn network(plan: Plan, seed: u64) -> Network {
         if laid >= plan.roads {
             break;
         }
-        laid = lay(random, street, plan.one_way);
+        // the last road of all has no room for its way back
+        let one_way = if laid + 1 == MOST_ROADS {
+            100
+        } else {
+            plan.one_way
+        };
+        laid = lay(random, street, one_way);
     }
     roads.sort();
     Network { places, roads }
