@@ -309,7 +309,7 @@ fn time(
                     "the words of all vans"
                 );
                 assert!(
-                    core.fleet.has_rows(shape, &plain.fleet.rows()),
+                    core.fleet.has_rows(shape, &plain.fleet.fleet.rows),
                     "the words of all rows"
                 );
             }

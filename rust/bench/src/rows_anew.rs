@@ -2,11 +2,12 @@
 //! vertices, and then all rows of each part above from its children's rows.
 
 use crate::shape::Shape;
-use roadgen::{Map, Place, FAR};
+use roadgen::{Map, Place, FAR, MOST_BORDERS};
 
 /// The vertex that an empty row shows.
 const NONE: u32 = 65_535;
-const EMPTY: u64 = (FAR as u64) << 32 | NONE as u64;
+/// The vertex and the distance of an empty row.
+const EMPTY: (u32, u32) = (NONE, FAR);
 
 /// The changes of a fleet, all of them accepted; each gives its stamp.
 pub trait Calls {
@@ -31,8 +32,8 @@ pub struct Fleet {
     vans: Vec<Option<Van>>,
     /// how many free vans head for each vertex
     free: Vec<u32>,
-    /// distance and vertex of each row, the distance first
-    rows: Vec<u64>,
+    /// the vertex and the distance that each row shows
+    pub rows: Vec<(u32, u32)>,
     count: u32,
 }
 
@@ -61,12 +62,6 @@ impl<'a> RowsAnew<'a> {
                 count: 0,
             },
         }
-    }
-
-    /// The vertex and the distance of each row.
-    pub fn rows(&self) -> Vec<(u32, u32)> {
-        let row = |&key: &u64| (key as u32, (key >> 32) as u32);
-        self.fleet.rows.iter().map(row).collect()
     }
 
     /// What each van is: 0 absent, 1 free, 1 + desk held; its road, offset and stamp.
@@ -129,32 +124,56 @@ impl<'a> RowsAnew<'a> {
 
     fn make_anew(&mut self, part: usize, is_leaf: bool) {
         let (shape, size) = (self.shape, self.shape.size(part));
-        let mut made = [EMPTY; roadgen::MOST_BORDERS];
-        let made = &mut made[..size];
+        let mut made = Made::new(size);
         let lines = self.tables[shape.table(part)].chunks_exact(size.max(1));
         for (line, from) in lines.zip(shape.rows(part)) {
             let source = if !is_leaf {
                 self.fleet.rows[shape.below[from] as usize]
             } else if self.fleet.free[shape.vertex[from] as usize] > 0 {
-                shape.vertex[from] as u64
+                (shape.vertex[from].into(), 0)
             } else {
                 EMPTY
             };
-            let (vertex, distance) = (source as u32, (source >> 32) as u32);
-            if distance == FAR {
-                continue;
-            }
-            for (best, &further) in made.iter_mut().zip(line) {
-                let offer = distance.saturating_add(further);
-                *best = (*best).min((offer as u64) << 32 | vertex as u64);
+            if source != EMPTY {
+                made.offer(source, line);
             }
         }
-        for (row, &made) in self.fleet.rows[shape.rows(part)].iter_mut().zip(&*made) {
-            *row = if made >> 32 == FAR as u64 {
+        let rows = self.fleet.rows[shape.rows(part)].iter_mut();
+        for ((row, &vertex), &distance) in rows.zip(&made.vertices).zip(&made.distances) {
+            *row = if distance == FAR {
                 EMPTY
             } else {
-                made
+                (vertex, distance)
             };
+        }
+    }
+}
+
+/// The rows of a part while they are made, vertices and distances apart so that several are compared at once.
+struct Made {
+    size: usize,
+    vertices: [u32; MOST_BORDERS],
+    distances: [u32; MOST_BORDERS],
+}
+
+impl Made {
+    fn new(size: usize) -> Self {
+        Made {
+            size,
+            vertices: [NONE; MOST_BORDERS],
+            distances: [FAR; MOST_BORDERS],
+        }
+    }
+
+    /// Each row shows the vertex if it is nearer, or as near with a lower number.
+    fn offer(&mut self, (vertex, distance): (u32, u32), line: &[u32]) {
+        let vertices = self.vertices[..self.size].iter_mut();
+        let distances = self.distances[..self.size].iter_mut();
+        for ((shown, best), &further) in vertices.zip(distances).zip(line) {
+            let offer = distance.saturating_add(further);
+            let nearer = (offer < *best) | ((offer == *best) & (vertex < *shown));
+            *shown = if nearer { vertex } else { *shown };
+            *best = if nearer { offer } else { *best };
         }
     }
 }
