@@ -257,7 +257,7 @@ pub fn run(rounds: Option<usize>) -> Section {
                     quiet = quiet.max(ours);
                 }
                 section.line(vec![
-                    vans.to_string(),
+                    whole(vans as f64),
                     kind.name().to_string(),
                     format!("{} ns", whole(ours)),
                     format!("{} ns", whole(theirs)),

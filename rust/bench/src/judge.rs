@@ -3,7 +3,7 @@
 
 use crate::dijkstra::{dijkstra, Graph, Heap};
 use crate::engine;
-use crate::report::{Section, CORE, HEAP};
+use crate::report::{whole, Section, CORE, HEAP};
 use crate::timing::Least;
 use roadgen::{cut_finely, network, Plan};
 
@@ -49,11 +49,12 @@ pub fn run(rounds: Option<usize>) -> Section {
         let searching = searching.nanos(SOURCES) / 1e3;
         section.line(vec![
             format!(
-                "seed {seed}: {vertices} vertices, {} roads, {} parts",
-                map.roads.len(),
+                "seed {seed}: {} vertices, {} roads, {} parts",
+                whole(vertices as f64),
+                whole(map.roads.len() as f64),
                 map.parents.len()
             ),
-            bytes.len().to_string(),
+            whole(bytes.len() as f64),
             format!("{judging:.1} µs"),
             format!("{searching:.1} µs"),
             format!("{:.2}", judging / searching),

@@ -72,15 +72,15 @@ pub fn run(rounds: Option<usize>) -> Section {
                 }
                 let quoted = (size == 4_096).then(|| QUOTED_NANOS[short][few]);
                 section.line(vec![
-                    size.to_string(),
-                    vans.to_string(),
+                    whole(size as f64),
+                    whole(vans as f64),
                     k.to_string(),
                     format!("{} ns", whole(core)),
                     format!("{} ns", whole(heap)),
                     format!("{faster:.2}"),
                     quoted.map_or(String::new(), |nanos| format!("{} ns", whole(nanos))),
                 ]);
-                let name = format!("{vans} vans, k {k}");
+                let name = format!("{} vans, k {k}", whole(vans as f64));
                 section.bar(chart, &name, CORE, core);
                 section.bar(chart, &name, HEAP, heap);
                 if let Some(nanos) = quoted {

@@ -3,11 +3,12 @@
 //! Every label is compared.
 
 use crate::dijkstra::{dijkstra, Graph, Heap};
-use crate::report::{Section, CORE, HEAP};
+use crate::report::{whole, Section, CORE, HEAP};
 use crate::timing::Least;
 use roadgen::{network, road_words, Plan, RoadWords};
 
-const VERTICES: usize = 4096;
+/// The most vertices; the search's labels are so many.
+pub const VERTICES: usize = 4096;
 const SOURCES: usize = 256;
 const ROUNDS: usize = 25;
 const SEEDS: [u64; 3] = [1, 2, 3];
@@ -27,7 +28,7 @@ extern "C" {
 }
 
 /// The proved search; it tests the words itself.
-fn proved(
+pub fn proved(
     words: &RoadWords,
     n: usize,
     count: usize,
@@ -65,7 +66,7 @@ pub fn run(rounds: Option<usize>) -> Section {
     for seed in SEEDS {
         let network = network(Plan::town(VERTICES), seed);
         let (n, count) = (network.vertices(), network.roads.len());
-        let words = road_words(&network);
+        let words = road_words(n, &network.roads);
         let graph = Graph::new(n, &network.roads);
         let sources: Vec<usize> = (0..SOURCES).map(|i| i * n / SOURCES).collect();
         let mut heap = Heap::with_capacity(count);
@@ -90,7 +91,7 @@ pub fn run(rounds: Option<usize>) -> Section {
         }
         let [search, test, plain] = [search, test, plain].map(|least| least.nanos(SOURCES) / 1e3);
         section.line(vec![
-            format!("seed {seed}, {count} roads"),
+            format!("seed {seed}, {} roads", whole(count as f64)),
             format!("{plain:.1} µs"),
             format!("{search:.1} µs"),
             format!("{:.2}", search / plain),

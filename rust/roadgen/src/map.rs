@@ -1,6 +1,6 @@
 //! A map as records of bytes, its roads as words of the memory, and vans on its roads.
 
-use crate::{Network, Random, Road};
+use crate::{Random, Road};
 
 /// A network with its tree of parts: the parent of each part, and the leaf of each vertex.
 #[derive(Clone, Debug)]
@@ -57,14 +57,14 @@ pub struct RoadWords {
     pub roads_at: usize,
 }
 
-pub fn road_words(network: &Network) -> RoadWords {
-    let n = network.vertices();
-    let roads_at = 8 * n;
-    let mut words = vec![0; roads_at + 4 * network.roads.len()];
-    for v in 0..n {
-        words[8 * v + 2] = network.roads.partition_point(|r| (r.from as usize) < v) as u32;
+/// The roads rise by where they start.
+pub fn road_words(vertices: usize, roads: &[Road]) -> RoadWords {
+    let roads_at = 8 * vertices;
+    let mut words = vec![0; roads_at + 4 * roads.len()];
+    for v in 0..vertices {
+        words[8 * v + 2] = roads.partition_point(|r| (r.from as usize) < v) as u32;
     }
-    for (i, road) in network.roads.iter().enumerate() {
+    for (i, road) in roads.iter().enumerate() {
         words[roads_at + 4 * i] = u32::from(road.from);
         words[roads_at + 4 * i + 1] = u32::from(road.to);
         words[roads_at + 4 * i + 2] = road.weight;
