@@ -1,10 +1,11 @@
-//! Changes of a fleet against a plain fleet that makes all rows of a changed vertex's parts anew. Both make the same changes, block by
-//! block in turn; in the first round all stamps, vans and rows are compared after each block.
+//! Changes of a fleet against two plain fleets, one that keeps its rows as the core does and one that makes all rows of a changed vertex's
+//! parts anew. All make the same changes, block by block in turn; in the first round all stamps, vans and rows are compared after each block.
 
 use crate::assembled;
 use crate::engine::Engine;
-use crate::report::{whole, Section, CORE, QUOTED, ROWS_ANEW};
-use crate::rows_anew::{Calls, RowsAnew};
+use crate::plain_fleet::{Calls, Method, PlainFleet};
+use crate::report::{whole, Section, CORE, QUOTED, ROWS_ANEW, SAME_METHOD};
+use crate::shape::Shape;
 use crate::timing::Least;
 use roadgen::{cut, fleet, network, Map, Place, Plan, Random};
 
@@ -192,6 +193,8 @@ pub fn run(rounds: Option<usize>) -> Section {
             "Vans",
             "Change",
             "Hailtrellis",
+            "Same method",
+            "Ratio",
             "Rows made anew",
             "Times faster",
             "C++ (quoted)",
@@ -217,21 +220,21 @@ pub fn run(rounds: Option<usize>) -> Section {
                 fleet: Engine::open(&map),
                 stamps: [0; 1_024],
             };
-            let mut plain = Side {
-                fleet: RowsAnew::new(&map, &shape, &tables),
+            let mut plain = [Method::Chosen, Method::Anew].map(|method| Side {
+                fleet: PlainFleet::new(method, &map, &shape, &tables),
                 stamps: [0; 1_024],
-            };
+            });
             assert!(core.fleet.has_tables(&shape, &tables));
             let places = script.places.iter().enumerate();
             let adds: Vec<Change> = places
                 .map(|(van, &place)| Change::Add(van as u32, place))
                 .collect();
             core.make(&adds);
-            plain.make(&adds);
+            plain.iter_mut().for_each(|side| side.make(&adds));
             if kinds[0] == Kind::MoveHeld {
                 for van in 0..BLOCK as u32 {
                     core.hold(van);
-                    plain.hold(van);
+                    plain.iter_mut().for_each(|side| side.hold(van));
                 }
             }
             let mut blocks: Vec<Vec<Change>> = Vec::new();
@@ -248,7 +251,7 @@ pub fn run(rounds: Option<usize>) -> Section {
                 kinds.len(),
                 rounds.unwrap_or(ROUNDS),
             );
-            for (&kind, (ours, theirs)) in kinds.iter().zip(times) {
+            for (&kind, [ours, chosen, anew]) in kinds.iter().zip(times) {
                 let quoted = kind.quoted().map(|nanos| nanos[few]);
                 if let Some(nanos) = quoted {
                     worst = worst.max(ours / nanos);
@@ -260,13 +263,16 @@ pub fn run(rounds: Option<usize>) -> Section {
                     whole(vans as f64),
                     kind.name().to_string(),
                     format!("{} ns", whole(ours)),
-                    format!("{} ns", whole(theirs)),
-                    format!("{:.1}", theirs / ours),
+                    format!("{} ns", whole(chosen)),
+                    format!("{:.2}", ours / chosen),
+                    format!("{} ns", whole(anew)),
+                    format!("{:.1}", anew / ours),
                     quoted.map_or(String::new(), |nanos| format!("{} ns", whole(nanos))),
                     quoted.map_or(String::new(), |nanos| format!("{:.2}", ours / nanos)),
                 ]);
                 section.bar(CHARTS[few], kind.name(), CORE, ours);
-                section.bar(CHARTS[few], kind.name(), ROWS_ANEW, theirs);
+                section.bar(CHARTS[few], kind.name(), SAME_METHOD, chosen);
+                section.bar(CHARTS[few], kind.name(), ROWS_ANEW, anew);
                 if let Some(nanos) = quoted {
                     section.bar(CHARTS[few], kind.name(), QUOTED, nanos);
                 }
@@ -280,44 +286,50 @@ pub fn run(rounds: Option<usize>) -> Section {
     section
 }
 
-/// Nanoseconds for a change of each kind, the core's and the plain fleet's.
+/// Nanoseconds for a change of each kind: the core's, and those of the plain fleets.
 fn time(
     core: &mut Side<Engine>,
-    plain: &mut Side<RowsAnew>,
-    shape: &crate::shape::Shape,
+    plain: &mut [Side<PlainFleet>; 2],
+    shape: &Shape,
     blocks: &[Vec<Change>],
     kinds: usize,
     rounds: usize,
-) -> Vec<(f64, f64)> {
+) -> Vec<[f64; 3]> {
     let (memory, stamps) = (core.fleet.memory.clone(), core.stamps);
-    let fleet = plain.fleet.fleet.clone();
-    let mut least: Vec<(Least, Least)> = (0..kinds)
-        .map(|_| (Least::new(BLOCKS), Least::new(BLOCKS)))
+    let fleet = plain[0].fleet.fleet.clone();
+    let mut least: Vec<[Least; 3]> = (0..kinds)
+        .map(|_| [(); 3].map(|()| Least::new(BLOCKS)))
         .collect();
     for round in 0..rounds {
         core.fleet.memory.copy_from_slice(&memory);
-        plain.fleet.fleet.clone_from(&fleet);
-        (core.stamps, plain.stamps) = (stamps, stamps);
+        core.stamps = stamps;
+        for side in &mut *plain {
+            side.fleet.fleet.clone_from(&fleet);
+            side.stamps = stamps;
+        }
         for (number, block) in blocks.iter().enumerate() {
-            let (ours, theirs) = &mut least[number % kinds];
+            let [ours, theirs @ ..] = &mut least[number % kinds];
             ours.time(number / kinds, || core.make(block));
-            theirs.time(number / kinds, || plain.make(block));
-            if round == 0 {
-                assert_eq!(core.stamps, plain.stamps, "the stamps of all vans");
-                assert!(
-                    core.fleet.has_vans(&plain.fleet.vans()),
-                    "the words of all vans"
-                );
-                assert!(
-                    core.fleet.has_rows(shape, &plain.fleet.fleet.rows),
-                    "the words of all rows"
-                );
+            for (side, least) in plain.iter_mut().zip(theirs) {
+                least.time(number / kinds, || side.make(block));
+                if round == 0 {
+                    compare(core, side, shape);
+                }
             }
         }
     }
-    let count = BLOCKS * BLOCK;
     least
         .iter()
-        .map(|(ours, theirs)| (ours.nanos(count), theirs.nanos(count)))
+        .map(|sides| sides.each_ref().map(|least| least.nanos(BLOCKS * BLOCK)))
         .collect()
+}
+
+fn compare(core: &Side<Engine>, plain: &Side<PlainFleet>, shape: &Shape) {
+    assert_eq!(core.stamps, plain.stamps, "the stamps of all vans");
+    let (engine, plain) = (&core.fleet, &plain.fleet);
+    assert!(engine.has_vans(&plain.vans()), "the words of all vans");
+    assert!(
+        engine.has_rows(shape, &plain.fleet.rows),
+        "the words of all rows"
+    );
 }

@@ -1,6 +1,6 @@
 //! The proved core through its C functions, on a memory of exactly the need. A refused call ends the bench.
 
-use crate::rows_anew::Calls;
+use crate::plain_fleet::Calls;
 use crate::shape::Shape;
 use hailtrellis::sys::{self, Reply};
 use roadgen::{Map, Place};

@@ -2,8 +2,8 @@
 
 use crate::engine::Engine;
 use crate::nearest::Nearest;
+use crate::plain_fleet::Calls;
 use crate::report::{whole, Section, CORE, HEAP, QUOTED};
-use crate::rows_anew::Calls;
 use crate::timing::{geometric_mean, Least};
 use roadgen::{cut, fleet, network, Plan, Random};
 use std::hint::black_box;

@@ -1,7 +1,6 @@
-//! A plain fleet with nearest rows: where a vertex becomes active or inactive, all rows of its leaf are made anew from the leaf's active
-//! vertices, and then all rows of each part above from its children's rows.
+//! A plain fleet with nearest rows, kept up to date in one of two ways where a vertex becomes active or inactive.
 
-use crate::shape::Shape;
+use crate::shape::{Shape, NO_ROW};
 use roadgen::{Map, Place, FAR, MOST_BORDERS};
 
 /// The vertex that an empty row shows.
@@ -37,7 +36,18 @@ pub struct Fleet {
     count: u32,
 }
 
-pub struct RowsAnew<'a> {
+/// How rows are kept up to date.
+#[derive(Clone, Copy, PartialEq, Eq)]
+pub enum Method {
+    /// All rows of the vertex's leaf are made anew from the leaf's active vertices, then all rows of each part above from its children's.
+    Anew,
+    /// As the core does it: a vertex that became active is offered to the rows, by those sources that show it; where it became inactive,
+    /// the rows that showed it are made anew; and the climb ends where no row of the part changed that has one in the parent.
+    Chosen,
+}
+
+pub struct PlainFleet<'a> {
+    method: Method,
     map: &'a Map,
     shape: &'a Shape,
     tables: &'a [u32],
@@ -45,10 +55,11 @@ pub struct RowsAnew<'a> {
     pub fleet: Fleet,
 }
 
-impl<'a> RowsAnew<'a> {
-    pub fn new(map: &'a Map, shape: &'a Shape, tables: &'a [u32]) -> Self {
+impl<'a> PlainFleet<'a> {
+    pub fn new(method: Method, map: &'a Map, shape: &'a Shape, tables: &'a [u32]) -> Self {
         let vertices = map.leaves.len();
-        RowsAnew {
+        PlainFleet {
+            method,
             map,
             shape,
             tables,
@@ -101,55 +112,121 @@ impl<'a> RowsAnew<'a> {
     fn arrive(&mut self, v: usize) {
         self.fleet.free[v] += 1;
         if self.fleet.free[v] == 1 {
-            self.refresh(v);
+            match self.method {
+                Method::Anew => self.climb(v, Self::make_anew),
+                Method::Chosen => self.climb(v, Self::offer_to_rows),
+            }
         }
     }
 
     fn leave(&mut self, v: usize) {
         self.fleet.free[v] -= 1;
         if self.fleet.free[v] == 0 {
-            self.refresh(v);
+            match self.method {
+                Method::Anew => self.climb(v, Self::make_anew),
+                Method::Chosen => self.climb(v, Self::take_from_rows),
+            }
         }
     }
 
-    /// All rows of all parts that hold the vertex, made anew.
-    fn refresh(&mut self, v: usize) {
+    /// One step for each part that holds the vertex, from its leaf up, while the steps say that it may matter above.
+    fn climb(&mut self, v: usize, step: fn(&mut Self, usize, u32) -> bool) {
         let mut part = self.shape.leaves[v];
-        self.make_anew(part, true);
-        while part != 0 {
+        while step(self, part, v as u32) && part != 0 {
             part = self.shape.parents[part];
-            self.make_anew(part, false);
         }
     }
 
-    fn make_anew(&mut self, part: usize, is_leaf: bool) {
-        let (shape, size) = (self.shape, self.shape.size(part));
-        let mut made = Made::new(size);
-        let lines = self.tables[shape.table(part)].chunks_exact(size.max(1));
-        for (line, from) in lines.zip(shape.rows(part)) {
-            let source = if !is_leaf {
-                self.fleet.rows[shape.below[from] as usize]
-            } else if self.fleet.free[shape.vertex[from] as usize] > 0 {
-                (shape.vertex[from].into(), 0)
-            } else {
-                EMPTY
-            };
+    /// What a row is made from: in a leaf its vertex if it is active, else the same vertex's row in the child.
+    fn source(&self, is_leaf: bool, row: usize) -> (u32, u32) {
+        if !is_leaf {
+            return self.fleet.rows[self.shape.below[row] as usize];
+        }
+        let vertex = self.shape.vertex[row];
+        if self.fleet.free[vertex as usize] > 0 {
+            (vertex.into(), 0)
+        } else {
+            EMPTY
+        }
+    }
+
+    /// The lines of a part's table.
+    fn lines(&self, part: usize) -> std::slice::ChunksExact<'a, u32> {
+        let tables = self.tables;
+        tables[self.shape.table(part)].chunks_exact(self.shape.size(part).max(1))
+    }
+
+    fn make_anew(&mut self, part: usize, _: u32) -> bool {
+        let mut made = Made::empty(self.shape.size(part));
+        let is_leaf = self.shape.is_leaf[part];
+        for (line, row) in self.lines(part).zip(self.shape.rows(part)) {
+            let source = self.source(is_leaf, row);
             if source != EMPTY {
                 made.offer(source, line);
             }
         }
-        let rows = self.fleet.rows[shape.rows(part)].iter_mut();
-        for ((row, &vertex), &distance) in rows.zip(&made.vertices).zip(&made.distances) {
-            *row = if distance == FAR {
-                EMPTY
-            } else {
-                (vertex, distance)
-            };
+        made.put(&mut self.fleet.rows[self.shape.rows(part)]);
+        true
+    }
+
+    fn offer_to_rows(&mut self, part: usize, v: u32) -> bool {
+        let shape = self.shape;
+        let mut made = Made::of(&self.fleet.rows[shape.rows(part)]);
+        if shape.is_leaf[part] {
+            let row = shape.leaf_row[v as usize] as usize - shape.rows(part).start;
+            made.offer(
+                (v, 0),
+                self.lines(part).nth(row).expect("a line for each row"),
+            );
+        } else {
+            for (line, row) in self.lines(part).zip(shape.rows(part)) {
+                let source = self.source(false, row);
+                if source.0 == v {
+                    made.offer(source, line);
+                }
+            }
         }
+        made.put(&mut self.fleet.rows[shape.rows(part)]);
+        let mut rows = shape.rows(part);
+        rows.any(|row| shape.above[row] != NO_ROW && self.fleet.rows[row].0 == v)
+    }
+
+    fn take_from_rows(&mut self, part: usize, v: u32) -> bool {
+        let (shape, rows) = (self.shape, self.shape.rows(part));
+        let mut lost = [0; MOST_BORDERS];
+        let mut count = 0;
+        let mut matters = false;
+        for row in rows.clone().filter(|&row| self.fleet.rows[row].0 == v) {
+            lost[count] = row - rows.start;
+            count += 1;
+            matters |= shape.above[row] != NO_ROW;
+        }
+        // where many rows are lost, several at once are faster than those alone
+        if count * 4 > rows.len() {
+            self.make_anew(part, v);
+            return matters;
+        }
+        if count == 0 {
+            return false;
+        }
+        let mut made = Made::empty(count);
+        let is_leaf = shape.is_leaf[part];
+        for (line, row) in self.lines(part).zip(rows.clone()) {
+            let source = self.source(is_leaf, row);
+            if source != EMPTY {
+                made.offer_chosen(source, line, &lost[..count]);
+            }
+        }
+        let mut new = [EMPTY; MOST_BORDERS];
+        made.put(&mut new[..count]);
+        for (&place, &new) in lost[..count].iter().zip(&new) {
+            self.fleet.rows[rows.start + place] = new;
+        }
+        matters
     }
 }
 
-/// The rows of a part while they are made, vertices and distances apart so that several are compared at once.
+/// Rows while they are made, vertices and distances apart so that several are compared at once.
 struct Made {
     size: usize,
     vertices: [u32; MOST_BORDERS],
@@ -157,12 +234,21 @@ struct Made {
 }
 
 impl Made {
-    fn new(size: usize) -> Self {
+    fn empty(size: usize) -> Self {
         Made {
             size,
             vertices: [NONE; MOST_BORDERS],
             distances: [FAR; MOST_BORDERS],
         }
+    }
+
+    fn of(rows: &[(u32, u32)]) -> Self {
+        let mut made = Made::empty(rows.len());
+        for (i, &(vertex, distance)) in rows.iter().enumerate() {
+            made.vertices[i] = vertex;
+            made.distances[i] = distance;
+        }
+        made
     }
 
     /// Each row shows the vertex if it is nearer, or as near with a lower number.
@@ -176,9 +262,31 @@ impl Made {
             *best = if nearer { offer } else { *best };
         }
     }
+
+    /// The same where the rows made are those at these places alone.
+    fn offer_chosen(&mut self, (vertex, distance): (u32, u32), line: &[u32], places: &[usize]) {
+        for (i, &place) in places.iter().enumerate() {
+            let offer = distance.saturating_add(line[place]);
+            if (offer, vertex) < (self.distances[i], self.vertices[i]) {
+                self.vertices[i] = vertex;
+                self.distances[i] = offer;
+            }
+        }
+    }
+
+    fn put(&self, rows: &mut [(u32, u32)]) {
+        let made = self.vertices.iter().zip(&self.distances);
+        for (row, (&vertex, &distance)) in rows.iter_mut().zip(made) {
+            *row = if distance == FAR {
+                EMPTY
+            } else {
+                (vertex, distance)
+            };
+        }
+    }
 }
 
-impl Calls for RowsAnew<'_> {
+impl Calls for PlainFleet<'_> {
     fn add(&mut self, van: u32, place: Place) -> u32 {
         assert!(self.fleet.vans[van as usize].is_none());
         let (road, offset) = (self.road(place), place.offset);
