@@ -1,5 +1,5 @@
 //! Changes of a fleet against two plain fleets, one that keeps its rows as the core does and one that makes all rows of a changed vertex's
-//! parts anew. All make the same changes, block by block in turn; in the first round all stamps, vans and rows are compared after each block.
+//! parts anew. All make the same changes, round by round in turn; before that all stamps, vans and rows are compared after each block.
 
 use crate::assembled;
 use crate::engine::Engine;
@@ -286,7 +286,8 @@ pub fn run(rounds: Option<usize>) -> Section {
     section
 }
 
-/// Nanoseconds for a change of each kind: the core's, and those of the plain fleets.
+/// Nanoseconds for a change of each kind: the core's, and those of the plain fleets. Each side makes all blocks of a round before the next
+/// side does, so that it finds its own words in the processor's caches.
 fn time(
     core: &mut Side<Engine>,
     plain: &mut [Side<PlainFleet>; 2],
@@ -297,24 +298,27 @@ fn time(
 ) -> Vec<[f64; 3]> {
     let (memory, stamps) = (core.fleet.memory.clone(), core.stamps);
     let fleet = plain[0].fleet.fleet.clone();
+    for block in blocks {
+        core.make(block);
+        for side in &mut *plain {
+            side.make(block);
+            compare(core, side, shape);
+        }
+    }
     let mut least: Vec<[Least; 3]> = (0..kinds)
         .map(|_| [(); 3].map(|()| Least::new(BLOCKS)))
         .collect();
-    for round in 0..rounds {
+    for _ in 0..rounds {
         core.fleet.memory.copy_from_slice(&memory);
         core.stamps = stamps;
-        for side in &mut *plain {
+        for (number, block) in blocks.iter().enumerate() {
+            least[number % kinds][0].time(number / kinds, || core.make(block));
+        }
+        for (which, side) in plain.iter_mut().enumerate() {
             side.fleet.fleet.clone_from(&fleet);
             side.stamps = stamps;
-        }
-        for (number, block) in blocks.iter().enumerate() {
-            let [ours, theirs @ ..] = &mut least[number % kinds];
-            ours.time(number / kinds, || core.make(block));
-            for (side, least) in plain.iter_mut().zip(theirs) {
-                least.time(number / kinds, || side.make(block));
-                if round == 0 {
-                    compare(core, side, shape);
-                }
+            for (number, block) in blocks.iter().enumerate() {
+                least[number % kinds][1 + which].time(number / kinds, || side.make(block));
             }
         }
     }

@@ -133,6 +133,8 @@ impl Cell<'_> {
                         black_box(engine.question(x, self.k, black_box(&mut answer)));
                     }
                 });
+            }
+            for (block, callers) in self.callers.chunks_exact(BLOCK).enumerate() {
                 heap.time(block, || {
                     for &x in callers {
                         black_box(plain.ask(x, self.k as usize));
