@@ -196,7 +196,7 @@ pub fn run(rounds: Option<usize>) -> Section {
             "Same method",
             "Ratio",
             "Rows made anew",
-            "Times faster",
+            "Times as fast",
             "C++ (quoted)",
             "Ratio to it",
         ],

@@ -35,7 +35,7 @@ pub fn run(rounds: Option<usize>) -> Section {
             "k",
             "Question",
             "Dijkstra",
-            "Times faster",
+            "Times as fast",
             "C++ (quoted)",
         ],
     );
@@ -93,7 +93,7 @@ pub fn run(rounds: Option<usize>) -> Section {
         .iter()
         .fold(0.0, |most: f64, faster| most.max(1.0 / faster));
     section.note(format!(
-        "With 50 and 200 vans {:.2} times faster than Dijkstra in the geometric mean (goal: at least 4). With 1,000 vans, k 1 and 8: at most {slowest:.2} times its time (goal: at most 3).",
+        "With 50 and 200 vans {:.2} times as fast as Dijkstra in the geometric mean (goal: at least 4). With 1,000 vans, k 1 and 8: at most {slowest:.2} times its time (goal: at most 3).",
         geometric_mean(&sparse)
     ));
     section
