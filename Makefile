@@ -11,3 +11,4 @@ bench:
 	rt staticlib road_search_c
 	rt staticlib hailtrellis_c
 	cd rust && cargo run --release --quiet -p bench -- all
+	cd rust && cargo run --release --quiet -p picture -- ../docs
