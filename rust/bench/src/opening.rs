@@ -13,7 +13,7 @@ const SEED: u64 = 1;
 const ROUNDS: usize = 40;
 /// so many rounds have the searches, which take long
 const SEARCHED: usize = 4;
-const CHART: &str = "Opening, ms";
+const CHART: &str = "Opening, µs";
 
 pub fn run(rounds: Option<usize>) -> Section {
     let mut section = Section::new(
@@ -72,9 +72,9 @@ pub fn run(rounds: Option<usize>) -> Section {
             format!("{:.2}", core / parts),
         ]);
         let cell = format!("{vertices} vertices");
-        section.bar(CHART, &cell, CORE, core);
-        section.bar(CHART, &cell, HEAP, heap);
-        section.bar(CHART, &cell, SAME_METHOD, parts);
+        section.bar(CHART, &cell, CORE, core * 1e3);
+        section.bar(CHART, &cell, HEAP, heap * 1e3);
+        section.bar(CHART, &cell, SAME_METHOD, parts * 1e3);
         if size == 4_096 {
             section.note(format!(
                 "At 4,096 vertices opening takes {core:.1} ms; at most 15 ms is the goal, and 6 ms is what the C++ V-Tree takes for these tables (quoted)."
