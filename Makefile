@@ -9,4 +9,6 @@ demo:
 
 bench:
 	rt staticlib road_search_c
-	cd rust && cargo run --release --quiet -p bench -- search
+	rt staticlib hailtrellis_c
+	cd rust && cargo run --release --quiet -p bench -- all
+	cd rust && cargo run --release --quiet -p picture -- ../docs

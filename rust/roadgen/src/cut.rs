@@ -1,7 +1,9 @@
 //! Cuts a network into a tree of parts: halves by a line across the longer or the shorter side, again and again, and then parts are
 //! handed up to their grandparent while it keeps within its limits.
 
-use crate::{Map, Network, MOST_BORDERS, MOST_CHILDREN, MOST_IN_LEAF, MOST_LEVELS, MOST_PARTS, NO_PARENT};
+use crate::{
+    Map, Network, MOST_BORDERS, MOST_CHILDREN, MOST_IN_LEAF, MOST_LEVELS, MOST_PARTS, NO_PARENT,
+};
 
 struct Part {
     vertices: Vec<usize>,
@@ -10,6 +12,8 @@ struct Part {
 
 struct Cutter<'a> {
     network: &'a Network,
+    /// equal halves down to small leaves, every part kept
+    finely: bool,
     neighbours: Vec<Vec<usize>>,
     /// the set that a vertex is in while borders are counted
     mark: Vec<usize>,
@@ -30,12 +34,17 @@ impl Cutter<'_> {
         let count = sets
             .iter()
             .flat_map(|set| set.iter())
-            .filter(|&&v| neighbours[v].iter().any(|&u| mark[u] < first || mark[u] != mark[v]))
+            .filter(|&&v| {
+                neighbours[v]
+                    .iter()
+                    .any(|&u| mark[u] < first || mark[u] != mark[v])
+            })
             .count();
         count
     }
 
-    /// The two halves with the fewest borders, among lines across both sides that leave neither half below two fifths.
+    /// The two halves with the fewest borders, among lines across both sides that leave neither half below two fifths (when cut finely,
+    /// that leave equal halves).
     fn halves(&mut self, vertices: &[usize]) -> (Vec<usize>, Vec<usize>) {
         let n = vertices.len();
         let mut best: Option<(usize, usize, Vec<usize>, usize)> = None;
@@ -43,9 +52,17 @@ impl Cutter<'_> {
             let mut order = vertices.to_vec();
             order.sort_by_key(|&v| {
                 let (x, y) = self.network.places[v];
-                if side == 0 { (x, y) } else { (y, x) }
+                if side == 0 {
+                    (x, y)
+                } else {
+                    (y, x)
+                }
             });
-            let (low, high) = (n * 2 / 5, n - n * 2 / 5);
+            let (low, high) = if self.finely {
+                (n / 2, n / 2)
+            } else {
+                (n * 2 / 5, n - n * 2 / 5)
+            };
             let step = ((high - low) / 12).max(1);
             let mut at = n / 2 - (n / 2 - low) / step * step;
             while at <= high {
@@ -53,7 +70,10 @@ impl Cutter<'_> {
                     let (a, b) = order.split_at(at);
                     let borders = self.borders(&[a, b]);
                     let off = at.abs_diff(n / 2);
-                    if best.as_ref().is_none_or(|(least, far, _, _)| (borders, off) < (*least, *far)) {
+                    if best
+                        .as_ref()
+                        .is_none_or(|(least, far, _, _)| (borders, off) < (*least, *far))
+                    {
                         best = Some((borders, off, order.clone(), at));
                     }
                 }
@@ -66,21 +86,40 @@ impl Cutter<'_> {
     }
 
     fn part(&mut self, vertices: Vec<usize>) -> Part {
-        if vertices.len() <= MOST_IN_LEAF {
-            return Part { vertices, children: Vec::new() };
+        let most = if self.finely {
+            MOST_IN_LEAF / 2
+        } else {
+            MOST_IN_LEAF
+        };
+        if vertices.len() <= most {
+            return Part {
+                vertices,
+                children: Vec::new(),
+            };
         }
         let (a, b) = self.halves(&vertices);
         let mut children = vec![self.part(a), self.part(b)];
+        if self.finely {
+            return Part { vertices, children };
+        }
         // a child's children in its place, while the borders stay within a little more than half of the limit
         while let Some(i) = (0..children.len()).find(|&i| {
             let child = &children[i];
-            if child.children.is_empty() || children.len() - 1 + child.children.len() > MOST_CHILDREN / 2 {
+            if child.children.is_empty()
+                || children.len() - 1 + child.children.len() > MOST_CHILDREN / 2
+            {
                 return false;
             }
             let sets: Vec<&[usize]> = children
                 .iter()
                 .enumerate()
-                .flat_map(|(j, c)| if j == i { c.children.iter().collect::<Vec<_>>() } else { vec![c] })
+                .flat_map(|(j, c)| {
+                    if j == i {
+                        c.children.iter().collect::<Vec<_>>()
+                    } else {
+                        vec![c]
+                    }
+                })
                 .map(|c| c.vertices.as_slice())
                 .collect();
             self.borders(&sets) <= MOST_BORDERS * 5 / 8
@@ -94,15 +133,35 @@ impl Cutter<'_> {
 
 /// The map of a network, or nothing where the cuts do not keep within the limits of a map.
 pub fn cut(network: &Network) -> Option<Map> {
+    cut_so(network, false)
+}
+
+/// The map of a network cut into equal halves again and again, down to leaves of at most half their limit: with 4,096 vertices one part
+/// fewer than a map may have.
+pub fn cut_finely(network: &Network) -> Option<Map> {
+    cut_so(network, true)
+}
+
+fn cut_so(network: &Network, finely: bool) -> Option<Map> {
     let n = network.vertices();
     let mut neighbours = vec![Vec::new(); n];
     for road in &network.roads {
         neighbours[road.from as usize].push(road.to as usize);
         neighbours[road.to as usize].push(road.from as usize);
     }
-    let mut cutter = Cutter { network, neighbours, mark: vec![0; n], marks: 0 };
+    let mut cutter = Cutter {
+        network,
+        finely,
+        neighbours,
+        mark: vec![0; n],
+        marks: 0,
+    };
     let whole = cutter.part((0..n).collect());
-    let mut map = Map { parents: Vec::new(), leaves: vec![0; n], roads: network.roads.clone() };
+    let mut map = Map {
+        parents: Vec::new(),
+        leaves: vec![0; n],
+        roads: network.roads.clone(),
+    };
     // level by level, so that a parent has a lower number than its children
     let mut level = vec![(&whole, NO_PARENT)];
     let mut levels = 0;
@@ -117,7 +176,11 @@ pub fn cut(network: &Network) -> Option<Map> {
                     map.leaves[v] = number;
                 }
             } else {
-                let sets: Vec<&[usize]> = part.children.iter().map(|c| c.vertices.as_slice()).collect();
+                let sets: Vec<&[usize]> = part
+                    .children
+                    .iter()
+                    .map(|c| c.vertices.as_slice())
+                    .collect();
                 if cutter.borders(&sets) > MOST_BORDERS {
                     return None;
                 }
@@ -153,5 +216,7 @@ pub fn borders(map: &Map) -> Vec<usize> {
             }
         }
     }
-    (0..parts).map(|p| is_border.iter().filter(|of| of[p]).count()).collect()
+    (0..parts)
+        .map(|p| is_border.iter().filter(|of| of[p]).count())
+        .collect()
 }

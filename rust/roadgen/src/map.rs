@@ -1,6 +1,6 @@
 //! A map as records of bytes, its roads as words of the memory, and vans on its roads.
 
-use crate::{Network, Random, Road};
+use crate::{Random, Road};
 
 /// A network with its tree of parts: the parent of each part, and the leaf of each vertex.
 #[derive(Clone, Debug)]
@@ -19,12 +19,21 @@ fn record(bytes: &mut Vec<u8>, kind: u16, body: &[u8]) {
 impl Map {
     /// The four records: counts, parents, leaves, roads.
     pub fn bytes(&self) -> Vec<u8> {
-        let two = |numbers: &[u16]| numbers.iter().flat_map(|x| x.to_le_bytes()).collect::<Vec<u8>>();
+        let two = |numbers: &[u16]| {
+            numbers
+                .iter()
+                .flat_map(|x| x.to_le_bytes())
+                .collect::<Vec<u8>>()
+        };
         let mut bytes = Vec::new();
         record(
             &mut bytes,
             1,
-            &two(&[self.leaves.len() as u16, self.roads.len() as u16, self.parents.len() as u16]),
+            &two(&[
+                self.leaves.len() as u16,
+                self.roads.len() as u16,
+                self.parents.len() as u16,
+            ]),
         );
         record(&mut bytes, 2, &two(&self.parents));
         record(&mut bytes, 3, &two(&self.leaves));
@@ -48,19 +57,23 @@ pub struct RoadWords {
     pub roads_at: usize,
 }
 
-pub fn road_words(network: &Network) -> RoadWords {
-    let n = network.vertices();
-    let roads_at = 8 * n;
-    let mut words = vec![0; roads_at + 4 * network.roads.len()];
-    for v in 0..n {
-        words[8 * v + 2] = network.roads.partition_point(|r| (r.from as usize) < v) as u32;
+/// The roads rise by where they start.
+pub fn road_words(vertices: usize, roads: &[Road]) -> RoadWords {
+    let roads_at = 8 * vertices;
+    let mut words = vec![0; roads_at + 4 * roads.len()];
+    for v in 0..vertices {
+        words[8 * v + 2] = roads.partition_point(|r| (r.from as usize) < v) as u32;
     }
-    for (i, road) in network.roads.iter().enumerate() {
+    for (i, road) in roads.iter().enumerate() {
         words[roads_at + 4 * i] = u32::from(road.from);
         words[roads_at + 4 * i + 1] = u32::from(road.to);
         words[roads_at + 4 * i + 2] = road.weight;
     }
-    RoadWords { words, vertices_at: 0, roads_at }
+    RoadWords {
+        words,
+        vertices_at: 0,
+        roads_at,
+    }
 }
 
 /// A van's place: on a road, with an offset left to its end.
@@ -77,7 +90,11 @@ pub fn fleet(roads: &[Road], count: usize, seed: u64) -> Vec<Place> {
     (0..count)
         .map(|_| {
             let road = roads[random.below(roads.len() as u64) as usize];
-            Place { from: road.from, to: road.to, offset: random.below(u64::from(road.weight) + 1) as u32 }
+            Place {
+                from: road.from,
+                to: road.to,
+                offset: random.below(u64::from(road.weight) + 1) as u32,
+            }
         })
         .collect()
 }

@@ -1,6 +1,6 @@
 //! A planar, partly one-way network on a jittered grid.
 
-use crate::{Random, MOST_WEIGHT};
+use crate::{Random, MOST_ROADS, MOST_WEIGHT};
 
 #[derive(Clone, Copy, Debug, PartialEq, Eq, PartialOrd, Ord)]
 pub struct Road {
@@ -45,6 +45,15 @@ impl Plan {
             one_way: 65,
             cut_off: 0,
             spacing: 20_000,
+        }
+    }
+
+    /// The largest map: 4,096 vertices with as many roads as a map may have.
+    pub fn largest() -> Self {
+        Plan {
+            roads: MOST_ROADS,
+            one_way: 50,
+            ..Plan::town(4_096)
         }
     }
 }
@@ -93,7 +102,9 @@ pub fn network(plan: Plan, seed: u64) -> Network {
     let random = &mut Random::new(seed);
     let n = plan.vertices;
     let columns = (1..).find(|c| c * c >= n).unwrap_or(1);
-    let jitter = |random: &mut Random| random.below(plan.spacing as u64 * 3 / 5 + 1) as i64 - plan.spacing * 3 / 10;
+    let jitter = |random: &mut Random| {
+        random.below(plan.spacing as u64 * 3 / 5 + 1) as i64 - plan.spacing * 3 / 10
+    };
     let places: Vec<(i64, i64)> = (0..n)
         .map(|v| {
             let x = (v % columns) as i64 * plan.spacing + jitter(random);
@@ -107,11 +118,24 @@ pub fn network(plan: Plan, seed: u64) -> Network {
     let mut roads = Vec::new();
     let mut lay = |random: &mut Random, street: &Street, one_way: u64| {
         // a slow street weighs up to three times its length
-        let weight = (street.length * (100 + random.below(201) as i64) / 100).clamp(1, i64::from(MOST_WEIGHT)) as u32;
-        let (a, b) = if random.chance(50) { (street.a, street.b) } else { (street.b, street.a) };
-        roads.push(Road { from: a as u16, to: b as u16, weight });
+        let weight = (street.length * (100 + random.below(201) as i64) / 100)
+            .clamp(1, i64::from(MOST_WEIGHT)) as u32;
+        let (a, b) = if random.chance(50) {
+            (street.a, street.b)
+        } else {
+            (street.b, street.a)
+        };
+        roads.push(Road {
+            from: a as u16,
+            to: b as u16,
+            weight,
+        });
         if !random.chance(one_way) {
-            roads.push(Road { from: b as u16, to: a as u16, weight });
+            roads.push(Road {
+                from: b as u16,
+                to: a as u16,
+                weight,
+            });
         }
         roads.len()
     };
@@ -132,7 +156,13 @@ pub fn network(plan: Plan, seed: u64) -> Network {
         if laid >= plan.roads {
             break;
         }
-        laid = lay(random, street, plan.one_way);
+        // the last road of all has no room for its way back
+        let one_way = if laid + 1 == MOST_ROADS {
+            100
+        } else {
+            plan.one_way
+        };
+        laid = lay(random, street, one_way);
     }
     roads.sort();
     Network { places, roads }

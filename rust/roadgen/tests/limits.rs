@@ -5,14 +5,23 @@ use roadgen::*;
 fn check(vertices: usize, seed: u64) {
     let network = network(Plan::town(vertices), seed);
     assert_eq!(network.vertices(), vertices);
+    let map = cut(&network).expect("the cuts keep within the limits");
+    check_map(&network, &map, seed);
+}
+
+fn check_map(network: &Network, map: &Map, seed: u64) {
+    let vertices = network.vertices();
     for pair in network.roads.windows(2) {
         assert!((pair[0].from, pair[0].to) < (pair[1].from, pair[1].to));
     }
     for road in &network.roads {
-        assert!((road.from as usize) < vertices && (road.to as usize) < vertices && road.from != road.to);
+        assert!(
+            (road.from as usize) < vertices
+                && (road.to as usize) < vertices
+                && road.from != road.to
+        );
         assert!((1..=MOST_WEIGHT).contains(&road.weight));
     }
-    let map = cut(&network).expect("the cuts keep within the limits");
     let parts = map.parents.len();
     assert!(parts <= MOST_PARTS);
     let mut levels = vec![1; parts];
@@ -29,20 +38,28 @@ fn check(vertices: usize, seed: u64) {
     for &leaf in &map.leaves {
         held[leaf as usize] += 1;
     }
-    let borders = borders(&map);
+    let borders = borders(map);
     for p in 0..parts {
         if children[p] == 0 {
             assert!((1..=MOST_IN_LEAF).contains(&held[p]));
         } else {
             assert!((2..=MOST_CHILDREN).contains(&children[p]));
             assert_eq!(held[p], 0);
-            assert!(borders[p] <= MOST_BORDERS, "part {p} has {} borders", borders[p]);
+            assert!(
+                borders[p] <= MOST_BORDERS,
+                "part {p} has {} borders",
+                borders[p]
+            );
         }
     }
     let records = 4 + 8 + 4 + 2 + 2 * parts + 4 + 2 + 2 * vertices + 4 + 2 + 8 * map.roads.len();
     assert_eq!(map.bytes().len(), records);
     for place in fleet(&map.roads, 100, seed) {
-        let road = map.roads.iter().find(|r| r.from == place.from && r.to == place.to).expect("a van stands on a road");
+        let road = map
+            .roads
+            .iter()
+            .find(|r| r.from == place.from && r.to == place.to)
+            .expect("a van stands on a road");
         assert!(place.offset <= road.weight);
     }
 }
@@ -54,6 +71,18 @@ fn towns_keep_within_the_limits() {
         for seed in 0..seeds {
             check(vertices, seed);
         }
+    }
+}
+
+#[test]
+fn the_largest_map_is_as_large_as_may_be() {
+    for seed in 0..5 {
+        let network = network(Plan::largest(), seed);
+        let map = cut_finely(&network).expect("the cuts keep within the limits");
+        check_map(&network, &map, seed);
+        assert_eq!(map.leaves.len(), 4_096);
+        assert_eq!(map.roads.len(), MOST_ROADS);
+        assert_eq!(map.parents.len(), MOST_PARTS - 1);
     }
 }
 
