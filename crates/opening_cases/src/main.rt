@@ -73,17 +73,33 @@ fn open_case(name: &[u8], path: &[u8], start: u32, lent: usize, from: usize, to:
     write_case(name, &map[..n], start, &mut memory[..lent], from, to);
 }
 
-fn main() {
+fn open_small() {
     open_case(b"small", b"small.map", 100, 8413, 8348, 8413);
     open_case(b"small", b"small.map", 100, 8412, 8348, 8412);
     open_case(b"small", b"small.map", 0, 8420, 64, 88);
     open_case(b"small", b"small.map", 4294967295, 8413, 88, 128);
+}
+
+fn open_one() {
     open_case(b"one", b"one.map", 1, 8277, 64, 80);
     open_case(b"one", b"one.map", 1, 8277, 8272, 8277);
     open_case(b"one", b"one.map", 1, 63, 0, 6);
+}
+
+fn open_apart() {
     open_case(b"apart", b"apart.map", 2, 8473, 8273, 8473);
     open_case(b"apart", b"apart.map", 2, 8472, 0, 6);
+}
+
+fn open_limit() {
     open_case(b"limit", b"limit.map", 3, 29832, 64, 72);
     open_case(b"limit", b"limit.map", 3, 29832, 28808, 28872);
     open_case(b"limit", b"limit.map", 3, 29831, 0, 6);
+}
+
+fn main() {
+    open_small();
+    open_one();
+    open_apart();
+    open_limit();
 }
