@@ -30,7 +30,7 @@ use Rattle.inner_walks.proofs.Up.{closed-least}
 use Rattle.table_rows.specs.Flat.{blank, Becomes, Blanked, Tried}
 use Rattle.assembly.specs.Laid.{Laid, entry, Outside}
 use Rattle.assembly.specs.Lower.{Honest, Lower, Inside}
-use Rattle.assembly.specs.Steps.{RowIn, placeBelow, Agreed, Noted, Roads, Tight, AtHome, Closed, Risen}
+use Rattle.assembly.specs.Steps.{RowIn, placeBelow, Agreed, Noted, Roads, Tight, AtHome, Closed, HaltTried, Risen}
 use Rattle.assembly.proofs.Places.{table-from, tables-apart, table-to, entry-to, row-is, row-real, size-few, laid-kept}
 use Rattle.assembly.proofs.Lowering.{lower-none, lower-then, inside-lower}
 use Rattle.assembly.proofs.Trying.{tried-lower, tried-tight, tried-keeps}
@@ -54,34 +54,59 @@ module _ (m : Map) (p : ℕ) where
 
 -- ---- every row vertex tried
 
-module _ (start : List ℕ) (p : ℕ) where
+module _ (start marked : List ℕ) (p : ℕ) where
   abbrev pub ClosedTo : ℕ → List ℕ → Type 0
-  ClosedTo k mem = (m : Map) → Laid m start → p < partCount m → AtHome m p start → Closed m p k start mem
+  ClosedTo k mem = (m : Map) → Laid m start → p < partCount m → AtHome m p start → Closed m p k marked start mem
 
   pub closed-first : ClosedTo 0 start
   closed-first m L hp home = record { lower = lower-none m p start; tight = λ k h. absurd (omega arith) }
 
   pub closed-turn : {size table : ℕ} (before after : List ℕ) (k : ℕ) → k < size → size ≡ getD start (64 + 8 * p + 1) 0 → table ≡ getD start (64 + 8 * p + 3) 0 →
-      ClosedTo k before → Tried table size k before after → ClosedTo (k + 1) after
-  closed-turn {size} {table} before after k hk size-is table-is done T m L hp home =
-      let A = done m L hp home in
-      let K = laid-kept m start before (A .lower .sized) (A .lower .outside) L in
-      let fits : k < sizeOf m p = omega (arith, L .part p hp .size) in
-      let T′ : Tried (tableOf m p) (sizeOf m p) k before after = rw (size-is ∙ L .part p hp .size, table-is ∙ L .part p hp .table) at T in
-      record {
-        lower = lower-then (A .lower) (tried-lower m before after K p k hp fits T′ p (omega arith));
-        tight = λ l hl. elim (eq-or-lt-of-le hl) [
-          | inl e ↦
-              let same : l ≡ k = omega arith in
-              subst⁻¹ (λ (x : ℕ). Tight m p x after) same
-              (tried-tight m before after K p k hp fits T′ (omega (arith, A .lower .less p k k (omega arith) hp fits fits, home k fits)))
-          | inr less ↦ tried-keeps m before after K p k hp fits T′ p l hp (omega (arith, fits)) (A .tight l (omega arith))
-        ];
-      }
+      ClosedTo k before → HaltTried table size k marked before after → ClosedTo (k + 1) after
+  closed-turn {size} {table} before after k hk size-is table-is done T m L hp home = elim (ℕ-discrete (word marked k) 1) [
+    | yes halt ↦
+        let T′ : Tried (tableOf m p) (sizeOf m p) k before after = rw (size-is ∙ L .part p hp .size, table-is ∙ L .part p hp .table) at (T .tried halt) in
+        record {
+          lower = lower-then (A .lower) (tried-lower m before after K p k hp fits T′ p (omega arith));
+          tight = λ l hl marks. elim (eq-or-lt-of-le hl) [
+            | inl e ↦
+                let same : l ≡ k = omega arith in
+                subst⁻¹ (λ (x : ℕ). Tight m p x after) same
+                (tried-tight m before after K p k hp fits T′ (omega (arith, A .lower .less p k k (omega arith) hp fits fits, home k fits)))
+            | inr less ↦ tried-keeps m before after K p k hp fits T′ p l hp (omega (arith, fits)) (A .tight l (omega arith) marks)
+          ];
+        }
+    | no none ↦ rw (T .passed none) (record {
+      lower = A .lower;
+      tight = λ l hl marks. elim (eq-or-lt-of-le hl) [
+        | inl e ↦
+            let same : l ≡ k = omega arith in
+            absurd (none (subst (λ (x : ℕ). word marked x ≡ 1) same marks))
+        | inr less ↦ A .tight l (omega arith) marks
+      ];
+    })
+  ]
+    where
+      A : Closed m p k marked start before
+      A = done m L hp home
+
+      K : Laid m before
+      K = laid-kept m start before (A .lower .sized) (A .lower .outside) L
+
+      fits : k < sizeOf m p
+      fits = omega (arith, L .part p hp .size)
 
   pub closed-done : {size : ℕ} (mem : List ℕ) (k : ℕ) → k ≤ size → size ≤ k → size ≡ getD start (64 + 8 * p + 1) 0 → ClosedTo k mem →
-      (m : Map) → Laid m start → p < partCount m → AtHome m p start → Closed m p (sizeOf m p) start mem
-  closed-done mem k within all size-is done m L hp home = subst (λ (n : ℕ). Closed m p n start mem) (omega (arith, L .part p hp .size)) (done m L hp home)
+      (m : Map) → Laid m start → p < partCount m → AtHome m p start → Closed m p (sizeOf m p) marked start mem
+  closed-done mem k within all size-is done m L hp home = subst (λ (n : ℕ). Closed m p n marked start mem) (omega (arith, L .part p hp .size)) (done m L hp home)
+
+-- one row, as its mark is read
+module _ (marked : List ℕ) {k a w : ℕ} (table size : ℕ) (at : a ≡ k) (reads : w ≡ getD marked a 0) where
+  pub halt-tried : {before after : List ℕ} → w ≡ 1 → Tried table size k before after → HaltTried table size k marked before after
+  halt-tried is T = record { sized = T .sized; tried = λ _. T; passed = λ none. absurd (none (ap (λ (x : ℕ). getD marked x 0) (sym at) ∙ sym reads ∙ is)) }
+
+  pub halt-passed : (w ≡ 1 → ⊥) → (mem : List ℕ) → HaltTried table size k marked mem mem
+  halt-passed other mem = record { sized = refl; tried = λ is. absurd (other (reads ∙ ap (λ (x : ℕ). getD marked x 0) at ∙ is)); passed = λ _. refl }
 
 -- ---- a table blanked
 
@@ -120,7 +145,7 @@ module _ (m : Map) (before after : List ℕ) (L : Laid m before) (p : ℕ) (hp :
 -- ---- the whole step
 
 module _ (m : Map) (mem one two three four : List ℕ) (L : Laid m mem) (p : ℕ) (hp : p < partCount m) (I : Inside m (suc p) mem)
-    (B : Blanked (tableOf m p) (sizeOf m p) mem one) (R : Roads m p (sizeOf m p) one two) (A : Agreed m p p (sizeOf m p) two three) (C : Closed m p (sizeOf m p) three four) where
+    (B : Blanked (tableOf m p) (sizeOf m p) mem one) (marks marked : List ℕ) (R : Roads m p (sizeOf m p) one two marks marked) (A : Agreed m p p (sizeOf m p) two three) (C : Closed m p (sizeOf m p) marked three four) where
   T : ℕ → ℕ → ℕ
   T a b = entry m four p (rowOfVertex m p a) (rowOfVertex m p b)
 
@@ -174,7 +199,15 @@ module _ (m : Map) (mem one two three four : List ℕ) (L : Laid m mem) (p : ℕ
         at-home = λ a ha. let ra = vertex-row m p a ha in omega (arith, later .less p (rowOfVertex m p a) (rowOfVertex m p a) (omega arith) hp (ra .0) (ra .0), blank-home m mem one L p hp B (rowOfVertex m p a) (ra .0));
         road = road-least;
         child = child-least;
-        tried = λ a k b ha hk hb. C .tight (rowOfVertex m p k) (vertex-row m p k hk .0) (rowOfVertex m p a) (rowOfVertex m p b) (vertex-row m p a ha .0) (vertex-row m p b hb .0);
+        tried = λ r h hf ht never a b ha hb.
+            let n = numbered noRoad (m .roads) r h in
+            let f = vertex-row m p (r .from) hf in
+            let t = vertex-row m p (r .to) ht in
+            let both = R .halts (n .0) (rowOfVertex m p (r .from)) (rowOfVertex m p (r .to)) (f .0) (n .1) (t .0) (ap (λ (x : Road). x .from) (n .2) ∙ sym (f .1)) (ap (λ (x : Road). x .to) (n .2) ∙ sym (t .1))
+            (λ c ri rj. never c (ri .is-child) (subst (λ (v : ℕ). holds m c v ≡ true) (f .1) (ri .is-held)) (subst (λ (v : ℕ). holds m c v ≡ true) (t .1) (rj .is-held))) in (
+              C .tight (rowOfVertex m p (r .from)) (f .0) (both .0) (rowOfVertex m p a) (rowOfVertex m p b) (vertex-row m p a ha .0) (vertex-row m p b hb .0),
+              C .tight (rowOfVertex m p (r .to)) (t .0) (both .1) (rowOfVertex m p a) (rowOfVertex m p b) (vertex-row m p a ha .0) (vertex-row m p b hb .0),
+            );
       }) (rowVertex m p i) (rowVertex m p j) w (row-is m p i hi) (row-is m p j hj) walk))
 
   pub risen : Risen m p mem four
@@ -191,21 +224,21 @@ module _ (m : Map) (mem one two three four : List ℕ) (L : Laid m mem) (p : ℕ
   }
 
 -- as the code has it
-pub risen-step : (mem one two three four : List ℕ) (p : ℕ) {size table wide : ℕ} {place : List ℕ} → size ≡ getD mem (64 + 8 * p + 1) 0 → table ≡ getD mem (64 + 8 * p + 3) 0 →
+pub risen-step : (mem one two three four : List ℕ) (p : ℕ) {size table wide : ℕ} {place : List ℕ} (marks marked : List ℕ) → 128 ≤ length marks → size ≡ getD mem (64 + 8 * p + 1) 0 → table ≡ getD mem (64 + 8 * p + 3) 0 →
     Blanked table size mem one → ((m : Map) → Laid m one → p < partCount m → 4096 ≤ wide → Noted m p (sizeOf m p) place) →
-    ((m : Map) → Laid m one → p < partCount m → Noted m p (sizeOf m p) place → Roads m p (sizeOf m p) one two) →
+    ((m : Map) → Laid m one → p < partCount m → Noted m p (sizeOf m p) place → 128 ≤ length marks → Roads m p (sizeOf m p) one two marks marked) →
     ((m : Map) (low : ℕ) → Laid m two → low ≤ p → p < partCount m → Agreed m low p (sizeOf m p) two three) →
-    ((m : Map) → Laid m three → p < partCount m → AtHome m p three → Closed m p (sizeOf m p) three four) →
+    ((m : Map) → Laid m three → p < partCount m → AtHome m p three → Closed m p (sizeOf m p) marked three four) →
     (m : Map) → Laid m mem → p < partCount m → 4096 ≤ wide → Inside m (suc p) mem → Risen m p mem four
-risen-step mem one two three four p size-is table-is B note roads agree close m L hp few I =
+risen-step mem one two three four p marks marked long size-is table-is B note roads agree close m L hp few I =
     let B′ : Blanked (tableOf m p) (sizeOf m p) mem one = rw (size-is ∙ L .part p hp .size, table-is ∙ L .part p hp .table) at B in
     let L1 = laid-kept m mem one (B .sized) (blank-outside m mem one L p hp B′) L in
-    let R = roads m L1 hp (note m L1 hp few) in
+    let R = roads m L1 hp (note m L1 hp few) long in
     let L2 = laid-kept m one two (R .lower .sized) (R .lower .outside) L1 in
     let A = agree m p L2 (omega arith) hp in
     let L3 = laid-kept m two three (A .lower .sized) (A .lower .outside) L2 in
     let C = close m L3 hp (λ i hi. omega (arith, A .lower .less p i i (omega arith) hp hi hi, R .lower .less p i i (omega arith) hp hi hi, blank-home m mem one L p hp B′ i hi)) in
-    risen m mem one two three four L p hp I B′ R A C
+    risen m mem one two three four L p hp I B′ marks marked R A C
 
 -- ---- part after part, from the last to the first
 

@@ -5,9 +5,10 @@ use mathlib.Core.Logic.{inl, inr}
 use mathlib.Core.List.{List}
 use Prim.Native.Nat.{ℕ, suc, _+_, _*_, _≤_, _<_, min}
 use native.Mathlib.Nat.{eq-or-lt-of-le}
+use native.Mathlib.Decide.{decLt, ℕ-discrete}
 use native.Mathlib.Numerals.{add-one}
 use native.Mathlib.Omega.{arith}
-use lib.ListN.{length, getD, set}
+use lib.ListN.{length, getD, set, length-set, List·getD-eq-default}
 use lib.Seq.{getD-set-same, getD-set-other}
 use Rattle.words.specs.Lists.{word, placeIn}
 use Rattle.words.proofs.Places.{entry-in, place-of-entry}
@@ -23,9 +24,10 @@ use Rattle.image.specs.Records.{rowVertex}
 use Rattle.image.proofs.Records.{vertices-start, roads-start}
 use Rattle.assembly.specs.Laid.{Laid, entry}
 use Rattle.assembly.specs.Lower.{lowered, Lower}
-use Rattle.assembly.specs.Steps.{Noted, RoadsOf, Roads}
-use Rattle.assembly.proofs.Places.{row-real, laid-kept}
+use Rattle.assembly.specs.Steps.{RowIn, Noted, Apart, Marked, RoadsOf, Roads}
+use Rattle.assembly.proofs.Places.{row-real, size-few, laid-kept}
 use Rattle.assembly.proofs.Lowering.{lower-none, lower-then, lower-one, lower-one-at}
+use Rattle.assembly.proofs.Below.{part-below-says}
 use Rattle.assembly.proofs.Pairs.{vertex-small}
 use Rattle.assembly.proofs.Range.{road-range, first-road-few, first-road-last}
 
@@ -95,26 +97,30 @@ first-road-end mem {v} all-is past shown m L hv =
 
 -- ---- one road
 
-module _ (mem place : List ℕ) (m : Map) (L : Laid m mem) (p i r : ℕ) (hp : p < partCount m) (hi : i < sizeOf m p) (hr : r < roadCount m) (N : Noted m p (sizeOf m p) place) where
+module _ (mem place marks : List ℕ) (m : Map) (L : Laid m mem) (p i r : ℕ) (hp : p < partCount m) (hi : i < sizeOf m p) (hr : r < roadCount m) (N : Noted m p (sizeOf m p) place) where
   -- it leads elsewhere: nothing is to be done
-  road-none : ((j : ℕ) → j < sizeOf m p → roadAt m r .from ≡ rowVertex m p i → roadAt m r .to ≡ rowVertex m p j → ⊥) → RoadsOf m p i r (suc r) mem mem
+  road-none : ((j : ℕ) → j < sizeOf m p → roadAt m r .from ≡ rowVertex m p i → roadAt m r .to ≡ rowVertex m p j → ⊥) → RoadsOf m p i r (suc r) mem mem marks marks
   road-none never = record {
     lower = lower-none m p mem;
     road = λ s j low high hs hj from to.
         let same : s ≡ r = omega arith in
         absurd (never j hj (ap (λ (k : ℕ). roadAt m k .from) (sym same) ∙ from) (ap (λ (k : ℕ). roadAt m k .to) (sym same) ∙ to));
+    kept = λ k h. h;
+    halts = λ s j low high hs hj from to _.
+        let same : s ≡ r = omega arith in
+        absurd (never j hj (ap (λ (k : ℕ). roadAt m k .from) (sym same) ∙ from) (ap (λ (k : ℕ). roadAt m k .to) (sym same) ∙ to));
   }
 
-  pub road-from-another : {from v : ℕ} → from ≡ roadAt m r .from → v ≡ rowVertex m p i → (from ≡ v → ⊥) → RoadsOf m p i r (suc r) mem mem
+  pub road-from-another : {from v : ℕ} → from ≡ roadAt m r .from → v ≡ rowVertex m p i → (from ≡ v → ⊥) → RoadsOf m p i r (suc r) mem mem marks marks
   road-from-another from-is v-is other = road-none (λ j hj starts ends. other (from-is ∙ starts ∙ sym v-is))
 
   noted-is : {to at j : ℕ} → to ≡ roadAt m r .to → at ≡ to → j ≡ getD place at 0 → (k : ℕ) → k < sizeOf m p → roadAt m r .to ≡ rowVertex m p k → j ≡ k
   noted-is to-is at-is shown k hk ends = shown ∙ ap (λ (x : ℕ). getD place x 0) (at-is ∙ to-is ∙ ends) ∙ N .each k hk
 
-  pub road-past : {to at j size : ℕ} → to ≡ roadAt m r .to → at ≡ to → j ≡ getD place at 0 → size ≡ getD mem (64 + 8 * p + 1) 0 → size ≤ j → RoadsOf m p i r (suc r) mem mem
+  pub road-past : {to at j size : ℕ} → to ≡ roadAt m r .to → at ≡ to → j ≡ getD place at 0 → size ≡ getD mem (64 + 8 * p + 1) 0 → size ≤ j → RoadsOf m p i r (suc r) mem mem marks marks
   road-past to-is at-is shown size-is past = road-none (λ k hk starts ends. omega (arith, noted-is to-is at-is shown k hk ends, L .part p hp .size))
 
-  pub road-to-another : {to at j v : ℕ} → to ≡ roadAt m r .to → at ≡ to → j ≡ getD place at 0 → (j < sizeOf m p → v ≡ rowVertex m p j) → (to ≡ v → ⊥) → RoadsOf m p i r (suc r) mem mem
+  pub road-to-another : {to at j v : ℕ} → to ≡ roadAt m r .to → at ≡ to → j ≡ getD place at 0 → (j < sizeOf m p → v ≡ rowVertex m p j) → (to ≡ v → ⊥) → RoadsOf m p i r (suc r) mem mem marks marks
   road-to-another {j = j} to-is at-is shown v-is other = road-none (λ k hk starts ends.
       let same = noted-is to-is at-is shown k hk ends in
       other (to-is ∙ ends ∙ ap (rowVertex m p) (sym same) ∙ sym (v-is (subst⁻¹ (λ (x : ℕ). x < sizeOf m p) same hk))))
@@ -122,14 +128,21 @@ module _ (mem place : List ℕ) (m : Map) (L : Laid m mem) (p i r : ℕ) (hp : p
   -- it leads from row i to row j
   pub road-taken : {from to weight u v size table line j column : ℕ} {after : List ℕ} → from ≡ roadAt m r .from → to ≡ roadAt m r .to → weight ≡ roadAt m r .weight →
       u ≡ rowVertex m p i → from ≡ u → size ≡ getD mem (64 + 8 * p + 1) 0 → j < size → (j < sizeOf m p → v ≡ rowVertex m p j) → to ≡ v →
-      table ≡ getD mem (64 + 8 * p + 3) 0 → line ≡ table + size * i → column ≡ j → after ≡ lowered mem (line + column) weight → RoadsOf m p i r (suc r) mem after
-  road-taken {weight = weight} {size = size} {line = line} {j = j} {column = column} from-is to-is weight-is u-is starts size-is within v-is ends table-is line-is column-is after-is =
+      table ≡ getD mem (64 + 8 * p + 3) 0 → line ≡ table + size * i → column ≡ j → after ≡ lowered mem (line + column) weight →
+      (marked : List ℕ) → ((k : ℕ) → word marks k ≡ 1 → word marked k ≡ 1) → (j < sizeOf m p → Apart m p i j → (word marked i ≡ 1) × (word marked j ≡ 1)) →
+      RoadsOf m p i r (suc r) mem after marks marked
+  road-taken {weight = weight} {size = size} {line = line} {j = j} {column = column} from-is to-is weight-is u-is starts size-is within v-is ends table-is line-is column-is after-is marked kept both =
       rw (after-is, there) (record {
         lower = lower-one m mem (L .fits) p i j hp hi hj weight p (omega arith) (λ _. near);
         road = λ s k low high hs hk from to.
             let same : s ≡ r = omega arith in
             let column-same : k ≡ j = row-differ m p k j hk hj (sym to ∙ ap (λ (x : ℕ). roadAt m x .to) same ∙ leads-to) in
             rw (same, column-same, ← weight-is) (lower-one-at m mem (L .fits) p i j hp hi hj weight);
+        kept = kept;
+        halts = λ s k low high hs hk from to apart.
+            let same : s ≡ r = omega arith in
+            let column-same : k ≡ j = row-differ m p k j hk hj (sym to ∙ ap (λ (x : ℕ). roadAt m x .to) same ∙ leads-to) in
+            subst⁻¹ (λ (x : ℕ). Apart m p i x → (word marked i ≡ 1) × (word marked x ≡ 1)) column-same (both hj) apart;
       })
     where
       sized : size ≡ sizeOf m p
@@ -158,10 +171,11 @@ module _ (mem place : List ℕ) (m : Map) (L : Laid m mem) (p i r : ℕ) (hp : p
 
 -- ---- one road, as the words of the memory show it
 
-abbrev pub ByRoad : List ℕ → List ℕ → ℕ → ℕ → ℕ → List ℕ → Type 0
-ByRoad mem place p i r after = (m : Map) → Laid m mem → p < partCount m → i < sizeOf m p → r < roadCount m → Noted m p (sizeOf m p) place → RoadsOf m p i r (suc r) mem after
+abbrev pub ByRoad : List ℕ → List ℕ → ℕ → ℕ → ℕ → List ℕ → List ℕ → List ℕ → Type 0
+ByRoad mem place p i r after marks marked =
+    (m : Map) → Laid m mem → p < partCount m → i < sizeOf m p → r < roadCount m → Noted m p (sizeOf m p) place → 128 ≤ length marks → RoadsOf m p i r (suc r) mem after marks marked
 
-module _ (mem place : List ℕ) (p i r : ℕ) {parts a all b c size first table from to weight at j mark u : ℕ}
+module _ (mem place marks : List ℕ) (p i r : ℕ) {parts a all b c size first table from to weight at j mark u : ℕ}
     (parts-is : parts ≡ getD mem 4 0) (a-is : a ≡ parts) (all-is : all ≡ getD mem 2 0) (b-is : b ≡ all) (c-is : c ≡ r)
     (size-is : size ≡ getD mem (64 + 8 * p + 1) 0) (first-is : first ≡ getD mem (64 + 8 * p + 2) 0) (table-is : table ≡ getD mem (64 + 8 * p + 3) 0)
     (from-is : from ≡ getD mem (64 + 8 * a + 8 * b + 4 * c) 0) (to-is : to ≡ getD mem (64 + 8 * a + 8 * b + 4 * c + 1) 0) (weight-is : weight ≡ getD mem (64 + 8 * a + 8 * b + 4 * c + 2) 0)
@@ -178,42 +192,69 @@ module _ (mem place : List ℕ) (p i r : ℕ) {parts a all b c size first table 
   weighs : (m : Map) → Laid m mem → r < roadCount m → weight ≡ roadAt m r .weight
   weighs m L hr = weight-is ∙ ap (λ (x : ℕ). getD mem (x + 2) 0) (there m L) ∙ L .road r hr .weight
 
-  pub by-another : (from ≡ u → ⊥) → ByRoad mem place p i r mem
-  by-another other m L hp hi hr N = road-from-another mem place m L p i r hp hi hr N (starts-at m L hr) (shown-vertex m mem L p i hp hi first-is mark-is reads) other
+  pub by-another : (from ≡ u → ⊥) → ByRoad mem place p i r mem marks marks
+  by-another other m L hp hi hr N _ = road-from-another mem place marks m L p i r hp hi hr N (starts-at m L hr) (shown-vertex m mem L p i hp hi first-is mark-is reads) other
 
-  pub by-none : size ≤ j → ByRoad mem place p i r mem
-  by-none past m L hp hi hr N = road-past mem place m L p i r hp hi hr N (ends-at m L hr) at-is j-is size-is past
+  pub by-none : size ≤ j → ByRoad mem place p i r mem marks marks
+  by-none past m L hp hi hr N _ = road-past mem place marks m L p i r hp hi hr N (ends-at m L hr) at-is j-is size-is past
 
   module _ {mark′ v : ℕ} (mark′-is : mark′ ≡ getD mem (first + 4 * j + 2) 0) (reads′ : (w d : ℕ) → w < 65536 → mark′ ≡ w + 65536 * d → v ≡ w) where
-    pub by-other : (to ≡ v → ⊥) → ByRoad mem place p i r mem
-    by-other other m L hp hi hr N =
-        road-to-another mem place m L p i r hp hi hr N (ends-at m L hr) at-is j-is (λ hj. shown-vertex m mem L p j hp hj first-is mark′-is reads′) other
+    pub by-other : (to ≡ v → ⊥) → ByRoad mem place p i r mem marks marks
+    by-other other m L hp hi hr N _ =
+        road-to-another mem place marks m L p i r hp hi hr N (ends-at m L hr) at-is j-is (λ hj. shown-vertex m mem L p j hp hj first-is mark′-is reads′) other
 
-    pub by-own : {line column : ℕ} {after : List ℕ} → from ≡ u → j < size → to ≡ v → line ≡ table + size * i → column ≡ j → after ≡ lowered mem (line + column) weight → ByRoad mem place p i r after
-    by-own starts within ends line-is column-is after-is m L hp hi hr N =
-        road-taken mem place m L p i r hp hi hr N (starts-at m L hr) (ends-at m L hr) (weighs m L hr) (shown-vertex m mem L p i hp hi first-is mark-is reads) starts size-is within
-        (λ hj. shown-vertex m mem L p j hp hj first-is mark′-is reads′) ends table-is line-is column-is after-is
+    pub by-own : {line column d e : ℕ} {after marked : List ℕ} → from ≡ u → j < size → to ≡ v → line ≡ table + size * i → column ≡ j → after ≡ lowered mem (line + column) weight →
+        ((w x : ℕ) → w < 65536 → mark ≡ w + 65536 * x → d ≡ x) → ((w x : ℕ) → w < 65536 → mark′ ≡ w + 65536 * x → e ≡ x) → Marked marks i j d e marked → ByRoad mem place p i r after marks marked
+    by-own {d = d} {e = e} {marked = marked} starts within ends line-is column-is after-is part-reads part-reads′ M m L hp hi hr N wide =
+        road-taken mem place marks m L p i r hp hi hr N (starts-at m L hr) (ends-at m L hr) (weighs m L hr) (shown-vertex m mem L p i hp hi first-is mark-is reads) starts size-is within
+        (λ hj. shown-vertex m mem L p j hp hj first-is mark′-is reads′) ends table-is line-is column-is after-is marked (M .kept)
+        (λ hj apart. M .both (omega (arith, wide, size-few m (L .sound) p hp)) (omega (arith, wide, size-few m (L .sound) p hp)) (λ same. alone hj apart same))
+      where
+        own : d ≡ partBelow m p (rowVertex m p i)
+        own = part-reads (rowVertex m p i) (partBelow m p (rowVertex m p i)) (vertex-small m mem L p i hi)
+            (mark-is ∙ ap (λ (f : ℕ). getD mem (f + 4 * i + 2) 0) (first-is ∙ L .part p hp .first-row) ∙ L .row p i hp hi .mark)
+
+        other : j < sizeOf m p → e ≡ partBelow m p (rowVertex m p j)
+        other hj = part-reads′ (rowVertex m p j) (partBelow m p (rowVertex m p j)) (vertex-small m mem L p j hj)
+            (mark′-is ∙ ap (λ (f : ℕ). getD mem (f + 4 * j + 2) 0) (first-is ∙ L .part p hp .first-row) ∙ L .row p j hp hj .mark)
+
+        alone : j < sizeOf m p → Apart m p i j → d ≡ e → d ≡ 0
+        alone hj apart same = elim (ℕ-discrete d 0) [
+          | yes none ↦ none
+          | no some ↦ absurd (apart d
+              (subst⁻¹ (RowIn m p i) own (part-below-says m (L .sound) p i hi (λ none. some (own ∙ none))))
+              (subst⁻¹ (RowIn m p j) (same ∙ other hj) (part-below-says m (L .sound) p j hj (λ none. some (same ∙ other hj ∙ none)))))
+        ]
 
 -- ---- all roads from one vertex
 
-module _ (start place : List ℕ) (p i from : ℕ) where
-  abbrev pub RoadsTo : ℕ → List ℕ → Type 0
-  RoadsTo r mem = (m : Map) → Laid m start → p < partCount m → i < sizeOf m p → Noted m p (sizeOf m p) place → RoadsOf m p i from r start mem
+module _ (start place marks : List ℕ) (p i from : ℕ) where
+  abbrev pub RoadsTo : ℕ → List ℕ → List ℕ → Type 0
+  RoadsTo r mem marked = (m : Map) → Laid m start → p < partCount m → i < sizeOf m p → Noted m p (sizeOf m p) place → 128 ≤ length marks → RoadsOf m p i from r start mem marks marked
 
-  pub roads-first : RoadsTo from start
-  roads-first m L hp hi N = record { lower = lower-none m p start; road = λ r j low high. absurd (omega arith) }
+  pub roads-first : RoadsTo from start marks
+  roads-first m L hp hi N _ = record { lower = lower-none m p start; road = λ r j low high. absurd (omega arith); kept = λ k h. h; halts = λ r j low high. absurd (omega arith) }
 
-  pub roads-turn : {first mark v end : ℕ} (before after : List ℕ) (r : ℕ) → r < end →
+  pub roads-turn : {first mark v end : ℕ} (before after marked marked′ : List ℕ) (r : ℕ) → length marked ≡ length marks → r < end →
       first ≡ getD start (64 + 8 * p + 2) 0 → mark ≡ getD start (first + 4 * i + 2) 0 → ((u d : ℕ) → u < 65536 → mark ≡ u + 65536 * d → v ≡ u) →
-      ((m : Map) → Laid m start → v + 1 ≤ m .vertices → end ≡ firstRoadFrom m (v + 1)) → RoadsTo r before →
-      ((m : Map) → Laid m before → p < partCount m → i < sizeOf m p → r < roadCount m → Noted m p (sizeOf m p) place → RoadsOf m p i r (suc r) before after) → RoadsTo (r + 1) after
-  roads-turn {v = v} before after r hr first-is shown reads end-is done one m L hp hi N =
-      let A = done m L hp hi N in
+      ((m : Map) → Laid m start → v + 1 ≤ m .vertices → end ≡ firstRoadFrom m (v + 1)) → RoadsTo r before marked →
+      ByRoad before place p i r after marked marked′ → RoadsTo (r + 1) after marked′
+  roads-turn {v = v} before after marked marked′ r long hr first-is shown reads end-is done one m L hp hi N wide =
+      let A = done m L hp hi N wide in
       let v-is = shown-vertex m start L p i hp hi first-is shown reads in
       let within : r < roadCount m = omega (arith, end-is m L (omega (arith, v-is, row-real m p i hi)), first-road-few m (L .sound) (v + 1)) in
-      let B = one m (laid-kept m start before (A .lower .sized) (A .lower .outside) L) hp hi within N in
+      let B = one m (laid-kept m start before (A .lower .sized) (A .lower .outside) L) hp hi within N (omega (arith, wide)) in
       record {
         lower = lower-then (A .lower) (B .lower);
+        kept = λ k h. B .kept k (A .kept k h);
+        halts = λ s j low high hs hj starts ends apart. elim (eq-or-lt-of-le high) [
+          | inl e ↦
+              let same : s ≡ r = omega arith in
+              B .halts s j (omega arith) (omega arith) hs hj starts ends apart
+          | inr less ↦
+              let both = A .halts s j low (omega arith) hs hj starts ends apart in
+              (B .kept i (both .0), B .kept j (both .1))
+        ];
         road = λ s j low high hs hj starts ends. elim (eq-or-lt-of-le high) [
           | inl e ↦
               let same : s ≡ r = omega arith in
@@ -222,14 +263,21 @@ module _ (start place : List ℕ) (p i from : ℕ) where
         ];
       }
 
-  pub roads-done : {first mark v end : ℕ} (mem : List ℕ) (r : ℕ) → end ≤ r → first ≡ getD start (64 + 8 * p + 2) 0 → mark ≡ getD start (first + 4 * i + 2) 0 →
+  pub roads-done : {first mark v end : ℕ} (mem marked : List ℕ) (r : ℕ) → end ≤ r → first ≡ getD start (64 + 8 * p + 2) 0 → mark ≡ getD start (first + 4 * i + 2) 0 →
       ((u d : ℕ) → u < 65536 → mark ≡ u + 65536 * d → v ≡ u) → ((m : Map) → Laid m start → v ≤ m .vertices → from ≡ firstRoadFrom m v) →
-      ((m : Map) → Laid m start → v + 1 ≤ m .vertices → end ≡ firstRoadFrom m (v + 1)) → RoadsTo r mem →
-      (m : Map) → Laid m start → p < partCount m → i < sizeOf m p → Noted m p (sizeOf m p) place → RoadsOf m p i 0 (roadCount m) start mem
-  roads-done {v = v} {end = end} mem r all first-is shown reads from-is end-is done m L hp hi N =
-      let A = done m L hp hi N in
+      ((m : Map) → Laid m start → v + 1 ≤ m .vertices → end ≡ firstRoadFrom m (v + 1)) → RoadsTo r mem marked →
+      (m : Map) → Laid m start → p < partCount m → i < sizeOf m p → Noted m p (sizeOf m p) place → 128 ≤ length marks → RoadsOf m p i 0 (roadCount m) start mem marks marked
+  roads-done {v = v} {end = end} mem marked r all first-is shown reads from-is end-is done m L hp hi N wide =
+      let A = done m L hp hi N wide in
       record {
         lower = A .lower;
+        kept = A .kept;
+        halts = λ s j _ _ hs hj starts ends apart.
+            let range = road-range m (L .sound) s hs in
+            let e : roadAt m s .from ≡ v = starts ∙ sym v-is in
+            A .halts s j
+            (omega (arith, range .0, from-is m L (omega (arith, v-is, row-real m p i hi)), ap (firstRoadFrom m) e))
+            (omega (arith, range .1, ends-at, ap (λ (x : ℕ). firstRoadFrom m (suc x)) e)) hs hj starts ends apart;
         road = λ s j _ _ hs hj starts ends.
             let range = road-range m (L .sound) s hs in
             let e : roadAt m s .from ≡ v = starts ∙ sym v-is in
@@ -246,21 +294,31 @@ module _ (start place : List ℕ) (p i from : ℕ) where
 
 -- ---- row after row
 
-module _ (start place : List ℕ) (p : ℕ) where
-  abbrev pub RowsTaken : ℕ → List ℕ → Type 0
-  RowsTaken i mem = (m : Map) → Laid m start → p < partCount m → Noted m p (sizeOf m p) place → Roads m p i start mem
+module _ (start place marks : List ℕ) (p : ℕ) where
+  abbrev pub RowsTaken : ℕ → List ℕ → List ℕ → Type 0
+  RowsTaken i mem marked = (m : Map) → Laid m start → p < partCount m → Noted m p (sizeOf m p) place → 128 ≤ length marks → Roads m p i start mem marks marked
 
-  pub taken-first : RowsTaken 0 start
-  taken-first m L hp N = record { lower = lower-none m p start; road = λ r i j h. absurd (omega arith) }
+  pub taken-first : RowsTaken 0 start marks
+  taken-first m L hp N _ = record { lower = lower-none m p start; road = λ r i j h. absurd (omega arith); kept = λ k h. h; halts = λ r i j h. absurd (omega arith) }
 
-  pub taken-turn : {size : ℕ} (before after : List ℕ) (i : ℕ) → i < size → size ≡ getD start (64 + 8 * p + 1) 0 → RowsTaken i before →
-      ((m : Map) → Laid m before → p < partCount m → i < sizeOf m p → Noted m p (sizeOf m p) place → RoadsOf m p i 0 (roadCount m) before after) → RowsTaken (i + 1) after
-  taken-turn before after i hi size-is done row m L hp N =
-      let A = done m L hp N in
+  pub taken-turn : {size : ℕ} (before after marked marked′ : List ℕ) (i : ℕ) → length marked ≡ length marks → i < size → size ≡ getD start (64 + 8 * p + 1) 0 → RowsTaken i before marked →
+      ((m : Map) → Laid m before → p < partCount m → i < sizeOf m p → Noted m p (sizeOf m p) place → 128 ≤ length marked → RoadsOf m p i 0 (roadCount m) before after marked marked′) → RowsTaken (i + 1) after marked′
+  taken-turn before after marked marked′ i long hi size-is done row m L hp N wide =
+      let A = done m L hp N wide in
       let fits : i < sizeOf m p = omega (arith, L .part p hp .size) in
-      let B = row m (laid-kept m start before (A .lower .sized) (A .lower .outside) L) hp fits N in
+      let B = row m (laid-kept m start before (A .lower .sized) (A .lower .outside) L) hp fits N (omega (arith, wide)) in
       record {
         lower = lower-then (A .lower) (B .lower);
+        kept = λ k h. B .kept k (A .kept k h);
+        halts = λ r k j hk hr hj starts ends apart. elim (eq-or-lt-of-le hk) [
+          | inl e ↦
+              let same : k ≡ i = omega arith in
+              subst⁻¹ (λ (x : ℕ). roadAt m r .from ≡ rowVertex m p x → Apart m p x j → (word marked′ x ≡ 1) × (word marked′ j ≡ 1)) same
+              (λ from apart. B .halts r j (omega arith) hr hr hj from ends apart) starts apart
+          | inr less ↦
+              let both = A .halts r k j (omega arith) hr hj starts ends apart in
+              (B .kept k (both .0), B .kept j (both .1))
+        ];
         road = λ r k j hk hr hj starts ends. elim (eq-or-lt-of-le hk) [
           | inl e ↦
               let same : k ≡ i = omega arith in
@@ -270,6 +328,31 @@ module _ (start place : List ℕ) (p : ℕ) where
         ];
       }
 
-  pub taken-done : {size : ℕ} (mem : List ℕ) (i : ℕ) → i ≤ size → size ≤ i → size ≡ getD start (64 + 8 * p + 1) 0 → RowsTaken i mem →
-      (m : Map) → Laid m start → p < partCount m → Noted m p (sizeOf m p) place → Roads m p (sizeOf m p) start mem
-  taken-done mem i within all size-is done m L hp N = subst (λ (n : ℕ). Roads m p n start mem) (omega (arith, L .part p hp .size)) (done m L hp N)
+  pub taken-done : {size : ℕ} (mem marked : List ℕ) (i : ℕ) → i ≤ size → size ≤ i → size ≡ getD start (64 + 8 * p + 1) 0 → RowsTaken i mem marked →
+      (m : Map) → Laid m start → p < partCount m → Noted m p (sizeOf m p) place → 128 ≤ length marks → Roads m p (sizeOf m p) start mem marks marked
+  taken-done mem marked i within all size-is done m L hp N wide = subst (λ (n : ℕ). Roads m p n start mem marks marked) (omega (arith, L .part p hp .size)) (done m L hp N wide)
+
+-- ---- marks
+
+pub mark-none : (marks : List ℕ) {i j d e : ℕ} → d ≡ e → (d ≡ 0 → ⊥) → Marked marks i j d e marks
+mark-none marks same some = record { kept = λ k h. h; both = λ _ _ none. absurd (some (none same)) }
+
+pub mark-both : (marks : List ℕ) {i j d e a b : ℕ} {one two : List ℕ} → a ≡ i → b ≡ j → one ≡ set marks a 1 → two ≡ set one b 1 → Marked marks i j d e two
+mark-both marks {i} {j} a-is b-is one-is two-is = rw (two-is, one-is, a-is, b-is) (record {
+  kept = λ k h. mark-kept (set marks i 1) j k (mark-kept marks i k h);
+  both = λ hi hj _. (mark-kept (set marks i 1) j i (getD-set-same marks i 1 0 hi), getD-set-same (set marks i 1) j 1 0 (omega (arith, length-set marks i 1)));
+})
+  where
+    mark-kept : (l : List ℕ) (a k : ℕ) → getD l k 0 ≡ 1 → getD (set l a 1) k 0 ≡ 1
+    mark-kept l a k h = elim (ℕ-discrete k a) [
+      | yes same ↦ elim (decLt a (length l)) [
+        | yes inside ↦ subst⁻¹ (λ (x : ℕ). getD (set l a 1) x 0 ≡ 1) same (getD-set-same l a 1 0 inside)
+        | no past ↦
+            let none : getD l a 0 ≡ 0 = List·getD-eq-default l 0 (omega (arith, past)) in
+            absurd (omega (arith, h, ap (λ (x : ℕ). getD l x 0) same, none))
+      ]
+      | no other ↦ getD-set-other l a k 1 0 other ∙ h
+    ]
+
+pub mark-length : (marks : List ℕ) (a b : ℕ) {one two : List ℕ} → one ≡ set marks a 1 → two ≡ set one b 1 → length two ≡ length marks
+mark-length marks a b one-is two-is = ap length two-is ∙ simp length-set (ap length one-is ∙ simp length-set)

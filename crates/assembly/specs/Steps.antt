@@ -12,6 +12,7 @@ use Rattle.parts.specs.Tree.{parentOf, holds, children}
 use Rattle.parts.specs.Size.{rowVertices, sizeOf}
 use Rattle.image.specs.Places.{tableOf, firstRowOf}
 use Rattle.image.specs.Records.{rowVertex}
+use Rattle.table_rows.specs.Flat.{Tried}
 use Rattle.assembly.specs.Laid.{Laid, entry, Outside}
 use Rattle.assembly.specs.Lower.{Honest, Lower, Inside, Short}
 
@@ -61,17 +62,33 @@ pub record Lines (m : Map) (p i c size first line firstBelow lineBelow : ℕ) : 
 pub record Noted (m : Map) (p n : ℕ) (place : List ℕ) : Type 0 where
   pub each : (i : ℕ) → i < n → word place (rowVertex m p i) ≡ i
 
--- the roads with a number of at least `from` and below `to`, from the vertex of row i to another row vertex
-pub record RoadsOf (m : Map) (p i from to : ℕ) (before after : List ℕ) : Type 0 where
+-- the vertices of rows i and j stand in no child together
+abbrev pub Apart : Map → ℕ → ℕ → ℕ → Type 0
+Apart m p i j = (c : ℕ) → RowIn m p i c → RowIn m p j c → ⊥
+
+-- rows i and j have been marked, unless d and e are one child
+pub record Marked (marks : List ℕ) (i j d e : ℕ) (marked : List ℕ) : Type 0 where
+  pub kept : (k : ℕ) → word marks k ≡ 1 → word marked k ≡ 1
+  pub both : i < length marks → j < length marks → (d ≡ e → d ≡ 0) → (word marked i ≡ 1) × (word marked j ≡ 1)
+
+-- The roads with a number of at least `from` and below `to`, from the vertex of row i to another row vertex, have lowered their words; and the
+-- ends of those that no child holds are marked as halts.
+pub record RoadsOf (m : Map) (p i from to : ℕ) (before after marks marked : List ℕ) : Type 0 where
   pub lower : Lower m p before after
   pub road : (r j : ℕ) → from ≤ r → r < to → r < roadCount m → j < sizeOf m p → roadAt m r .from ≡ rowVertex m p i → roadAt m r .to ≡ rowVertex m p j →
       entry m after p i j ≤ roadAt m r .weight
+  pub kept : (k : ℕ) → word marks k ≡ 1 → word marked k ≡ 1
+  pub halts : (r j : ℕ) → from ≤ r → r < to → r < roadCount m → j < sizeOf m p → roadAt m r .from ≡ rowVertex m p i → roadAt m r .to ≡ rowVertex m p j →
+      Apart m p i j → (word marked i ≡ 1) × (word marked j ≡ 1)
 
 -- all roads from the vertices of the first n rows
-pub record Roads (m : Map) (p n : ℕ) (before after : List ℕ) : Type 0 where
+pub record Roads (m : Map) (p n : ℕ) (before after marks marked : List ℕ) : Type 0 where
   pub lower : Lower m p before after
   pub road : (r i j : ℕ) → i < n → r < roadCount m → j < sizeOf m p → roadAt m r .from ≡ rowVertex m p i → roadAt m r .to ≡ rowVertex m p j →
       entry m after p i j ≤ roadAt m r .weight
+  pub kept : (k : ℕ) → word marks k ≡ 1 → word marked k ≡ 1
+  pub halts : (r i j : ℕ) → i < n → r < roadCount m → j < sizeOf m p → roadAt m r .from ≡ rowVertex m p i → roadAt m r .to ≡ rowVertex m p j →
+      Apart m p i j → (word marked i ≡ 1) × (word marked j ≡ 1)
 
 -- ---- nodes tried
 
@@ -83,10 +100,16 @@ Tight m q k mem = (i j : ℕ) → i < sizeOf m q → j < sizeOf m q → entry m 
 abbrev pub AtHome : Map → ℕ → List ℕ → Type 0
 AtHome m q mem = (i : ℕ) → i < sizeOf m q → entry m mem q i i ≤ 0
 
--- the first n rows of p have been tried in the table of p
-pub record Closed (m : Map) (p n : ℕ) (before after : List ℕ) : Type 0 where
+-- of the first n rows of p those marked as halts have been tried in the table of p
+pub record Closed (m : Map) (p n : ℕ) (marked before after : List ℕ) : Type 0 where
   pub lower : Lower m p before after
-  pub tight : (k : ℕ) → k < n → Tight m p k after
+  pub tight : (k : ℕ) → k < n → word marked k ≡ 1 → Tight m p k after
+
+-- row k has been tried, if it is marked
+pub record HaltTried (table size k : ℕ) (marked before after : List ℕ) : Type 0 where
+  pub sized : length after ≡ length before
+  pub tried : word marked k ≡ 1 → Tried table size k before after
+  pub passed : (word marked k ≡ 1 → ⊥) → after ≡ before
 
 -- row i of p has been tried in the table of the child that holds it, and what was tried there before still is
 pub record EnteredRow (m : Map) (p i : ℕ) (before after : List ℕ) : Type 0 where

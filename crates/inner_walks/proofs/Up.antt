@@ -28,7 +28,11 @@ pub record Closed (m : Map) (p : ℕ) (T : ℕ → ℕ → ℕ) : Type 0 where
   pub at-home : (a : ℕ) → List·Memᴰ a (rowVertices m p) → T a a ≤ 0
   pub road : (r : Road) → List·Memᴰ r (m .roads) → List·Memᴰ (r .from) (rowVertices m p) → List·Memᴰ (r .to) (rowVertices m p) → T (r .from) (r .to) ≤ r .weight
   pub child : (c a b w : ℕ) → List·Memᴰ c (children m p) → List·Memᴰ a (rowVertices m p) → List·Memᴰ b (rowVertices m p) → Inner m c a b w → T a b ≤ w
-  pub tried : (a k b : ℕ) → List·Memᴰ a (rowVertices m p) → List·Memᴰ k (rowVertices m p) → List·Memᴰ b (rowVertices m p) → T a b ≤ T a k + T k b
+  -- by the ends of a road between two row vertices that no child holds both of
+  pub tried : (r : Road) → List·Memᴰ r (m .roads) → List·Memᴰ (r .from) (rowVertices m p) → List·Memᴰ (r .to) (rowVertices m p)
+      → ((c : ℕ) → List·Memᴰ c (children m p) → holds m c (r .from) ≡ true → holds m c (r .to) ≡ true → ⊥)
+      → (a b : ℕ) → List·Memᴰ a (rowVertices m p) → List·Memᴰ b (rowVertices m p)
+      → (T a b ≤ T a (r .from) + T (r .from) b) × (T a b ≤ T a (r .to) + T (r .to) b)
 
 module _ (m : Map) (net : Net m) (tree : Tree m) where
   -- what the rows of a leaf, and of another part, are
@@ -95,7 +99,12 @@ module _ (m : Map) (net : Net m) (tree : Tree m) where
         let ha = leaf-holds p a e h in
         let hb = leaf-holds p b e (inner-start later) in
         let hc = leaf-holds p c e (inner-end later) in
-        omega (arith, C .tried a b c ha hb hc, C .road (record { from = a; to = b; weight = w }) road ha hb, leaf-least e later)
+        omega (
+          arith,
+          C .tried (record { from = a; to = b; weight = w }) road ha hb (λ d hd _ _. leaf-childless m p d e hd) a c ha hc .1,
+          C .road (record { from = a; to = b; weight = w }) road ha hb,
+          leaf-least e later,
+        )
 
     -- in another part: a walk begun inside child c from the row vertex a is cut where it goes from one child to another
     part-least : isLeaf m p ≡ false → {c a v b u w : ℕ} → List·Memᴰ c (children m p) → List·Memᴰ a (rowVertices m p) → List·Memᴰ b (rowVertices m p)
@@ -106,22 +115,19 @@ module _ (m : Map) (net : Net m) (tree : Tree m) where
         (λ inside. omega (arith, part-least e hc ha hb (inner-joined begun (inner-road road (inner-end begun) inside)) later))
         (λ outside.
         let next = held-below p t e (inner-start later) in
-        let apart : holds m (next .0) v ≡ false =
-        ⊎-elim
-        (λ held.
-        let there = children-says m p (next .0) (next .1) in
+        let never : (d : ℕ) → List·Memᴰ d (children m p) → holds m d v ≡ true → holds m d t ≡ true → ⊥ = λ d hd held there.
+        let mine = children-says m p d hd in
         let said = children-says m p c hc in
-        let hv = holds-says m c v (inner-end begun) .0 in
-        let same = one-child m (tree .falls) v (tree .leaf-part v hv) (next .0) c held (inner-end begun) (there .2) (said .2) (there .1 ∙ sym (said .1)) in
-        absurd (true≢false (sym (subst (λ (k : ℕ). holds m k t ≡ true) same (next .2)) ∙ outside)))
-        (λ out. out)
-        (true-or-false (holds m (next .0) v)) in
+        let same = one-child m (tree .falls) v (tree .leaf-part v (holds-says m c v (inner-end begun) .0)) d c held (inner-end begun) (mine .2) (said .2) (mine .1 ∙ sym (said .1)) in
+        true≢false (sym (subst (λ (k : ℕ). holds m k t ≡ true) same there) ∙ outside) in
+        let apart : holds m (next .0) v ≡ false = ⊎-elim (λ held. absurd (never (next .0) (next .1) held (next .2))) (λ out. out) (true-or-false (holds m (next .0) v)) in
         let hv = boundary-above p c v hc (leaves-boundary m c (record { from = v; to = t; weight = w }) road (inner-end begun) outside) in
         let ht = boundary-above p (next .0) t (next .1) (enters-boundary m (next .0) (record { from = v; to = t; weight = w }) road apart (next .2)) in
+        let halts = C .tried (record { from = v; to = t; weight = w }) road hv ht never in
         omega (
           arith,
-          C .tried a v b ha hv hb,
-          C .tried v t b hv ht hb,
+          halts a b ha hb .0,
+          halts v b hv hb .1,
           C .child c a v u hc ha hv begun,
           C .road (record { from = v; to = t; weight = w }) road hv ht,
           part-least e (next .1) ht hb (rest (next .2)) later,

@@ -2,9 +2,8 @@
 use mathlib.Core.Path.{_≡_}
 use mathlib.Core.Bool.{_&&_}
 use mathlib.Core.List.{List}
-use Prim.Native.Nat.{ℕ, _<_, _≤_}
+use Prim.Native.Nat.{ℕ, _<_}
 use lib.Dec.{ltb}
-use Rattle.words.specs.Limits.{NONE}
 use Rattle.words.specs.Lists.{word}
 use Rattle.roads.specs.Map.{Map, partCount, roadCount, roadAt}
 use Rattle.parts.specs.Tree.{parentOf, leafOf, holds}

@@ -1,10 +1,9 @@
 -- What opening gives and leaves, by the judgement of the map.
 -- Assumes nothing.
-use mathlib.Core.Path.{_≡_, refl, ap, sym, subst, subst⁻¹, _∙_}
+use mathlib.Core.Path.{_≡_, refl, ap, sym, _∙_}
 use mathlib.Core.Bool.{Bool, true, false}
 use mathlib.Core.List.{List, _++_}
 use Prim.Native.Nat.{ℕ, zero, suc, _≤_, _<_}
-use native.Mathlib.Nat.{suc-ne-zero}
 use native.Mathlib.Omega.{arith}
 use lib.ListN.{length, drop}
 use lib.Dec.{leb}
@@ -13,7 +12,6 @@ use Rattle.words.specs.Limits.{mostVertices, mostRoads, mostParts}
 use Rattle.words.specs.Tests.{_unless_then_}
 use Rattle.roads.specs.Map.{Map, partCount, roadCount}
 use Rattle.parts.specs.Size.{need}
-use Rattle.maps.specs.Sound.{Sound}
 use Rattle.maps.specs.Bytes.{isRecord, countsOf, length1, decode}
 use Rattle.maps.specs.Rules.{countsFit, partsFit, roadsFit, bordersFit}
 use Rattle.maps.specs.Judge.{Judged, sound, restFits, ruleRefusal, mapRefusal, verdict, judge}
@@ -21,7 +19,7 @@ use Rattle.maps.proofs.Judged.{judged-sound}
 use Rattle.fleet.specs.State.{freshState}
 use Rattle.fleet.specs.Change.{Answer, refused, accepted}
 use Rattle.image.specs.Image.{image}
-use Rattle.calls.specs.Outcome.{Called, openSound, openJudged, opening, Opened}
+use Rattle.calls.specs.Outcome.{openSound, openJudged, opening, Opened}
 use Rattle.counts.specs.declared.Counts.{Counts}
 use Rattle.map_judge.specs.declared.Judgement.{Judgement}
 use Rattle.map_judge.specs.declared.Judgement.the-variants.{Sound as SoundMap, Refused}

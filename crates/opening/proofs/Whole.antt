@@ -1,22 +1,20 @@
 -- The sections and the tables together are the image of an empty fleet.
 -- Assumes nothing.
-use mathlib.Core.Path.{_≡_, refl, ap, sym, _∙_}
+use mathlib.Core.Path.{_≡_, ap, sym, _∙_}
 use mathlib.Core.Logic.{inl, inr}
 use mathlib.Core.List.{List}
 use Prim.Native.Nat.{ℕ, _+_, _*_, _≤_, _<_}
 use native.Mathlib.Nat.{add-zero}
 use native.Mathlib.Omega.{arith}
-use lib.ListN.{length}
-use Rattle.words.specs.Limits.{vans}
 use Rattle.words.specs.Lists.{word}
-use Rattle.roads.specs.Map.{Map, partCount, roadCount, roadAt}
-use Rattle.parts.specs.Size.{sizeOf, need}
+use Rattle.roads.specs.Map.{Map, partCount, roadCount}
+use Rattle.parts.specs.Size.{sizeOf}
 use Rattle.maps.specs.Sound.{Sound}
 use Rattle.fleet.specs.State.{freshState}
-use Rattle.image.specs.Places.{verticesAt, roadsAt, vansAt, tablesAt, rowsAt, tableOf, firstRowOf}
+use Rattle.image.specs.Places.{verticesAt, roadsAt, tablesAt, firstRowOf}
 use Rattle.image.specs.Image.{headPart, partRecord, vertexRecord, firstRoadFrom, image}
 use Rattle.image.specs.Records.{roadRecord}
-use Rattle.image.proofs.Records.{vertices-start, roads-start, vans-start, tables-start, rows-start, rows-end, head-word, part-word, vertex-word, road-word, table-word, shown-word, Address, in-head, in-parts, in-vertices, in-roads, in-vans, in-tables, in-rows, image-by-words}
+use Rattle.image.proofs.Records.{vertices-start, roads-start, vans-start, tables-start, head-word, part-word, vertex-word, road-word, table-word, shown-word, Address, in-head, in-parts, in-vertices, in-roads, in-vans, in-tables, in-rows, image-by-words}
 use Rattle.opening_fresh.proofs.Fresh.{fresh-slots}
 use Rattle.opening_rows.proofs.Places.{part-from}
 use Rattle.opening_sections.specs.Sections.{Sections}

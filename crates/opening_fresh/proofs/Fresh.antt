@@ -1,22 +1,20 @@
 -- The image of an empty fleet shows these records.
 -- Assumes nothing.
-use mathlib.Core.Path.{_≡_, refl, ap, ap₂, sym, _∙_}
-use mathlib.Core.Logic.{inl, inr}
+use mathlib.Core.Path.{_≡_, refl, ap}
 use mathlib.Core.Bool.{Bool, true, false, _&&_, cond, true≢false}
-use mathlib.Core.List.{List, [], _∷_, map, foldr}
+use mathlib.Core.List.{List, map, foldr}
 use Prim.Native.Nat.{ℕ, zero, suc, _<_}
-use native.Mathlib.Omega.{arith}
-use lib.ListN.{length, getD, drop, replicate, length-replicate, getD-replicate}
+use lib.ListN.{length, drop, replicate, length-replicate, getD-replicate}
 use lib.Dec.{ltb}
 use Rattle.words.specs.Limits.{vans, FAR}
-use Rattle.words.specs.Lists.{upTo, word, any, keep, link}
+use Rattle.words.specs.Lists.{upTo, any, link}
 use Rattle.words.proofs.Ranks.{keep-none}
 use Rattle.roads.specs.Map.{Map}
 use Rattle.roads.specs.Dist.{dist}
 use Rattle.parts.specs.Tree.{holds}
 use Rattle.rows.specs.declared.Row.{Row}
 use Rattle.rows.specs.Row.{emptyRow, itself, nearer, arriving, rowOf}
-use Rattle.fleet.specs.State.{Slot, absent, State, freshState, slotOf, headsFor, active}
+use Rattle.fleet.specs.State.{Slot, absent, freshState, slotOf, headsFor, active}
 use Rattle.image.specs.Image.{vertexRecord, vanRecord, nextVan, rowRecord, partBelow, rowBelow}
 use Rattle.image.specs.Records.{vanWords}
 use Rattle.opening_fresh.specs.Fresh.{freshVertex, freshRow}

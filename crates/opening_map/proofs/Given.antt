@@ -1,22 +1,20 @@
 -- What the functions that write the sections ask of the map that the bytes show.
 -- Assumes nothing.
-use mathlib.Core.Path.{_≡_, refl, ap, sym, _∙_}
+use mathlib.Core.Path.{_≡_, ap, sym, _∙_}
 use mathlib.Core.List.{List}
-use Prim.Native.Nat.{ℕ, _+_, _*_, _≤_, _<_}
+use Prim.Native.Nat.{ℕ, _+_, _*_, _<_}
 use native.Mathlib.Omega.{arith}
 use lib.ListN.{length, getD, drop, replicate, length-replicate, getD-replicate, List·getD-eq-default}
 use native.Mathlib.Decide.{decLt}
-use Rattle.words.specs.Limits.{mostParts, NONE}
 use Rattle.words.specs.Lists.{word}
-use Rattle.roads.specs.Map.{Road, Map, partCount, roadCount, roadAt, noRoad}
-use Rattle.parts.specs.Size.{need}
-use Rattle.maps.specs.Bytes.{Counts, countsOf, roadShown, numbers, roadsOf, bodyAt, start2, start3, start4, decode}
+use Rattle.roads.specs.Map.{Road, Map, partCount, roadCount, noRoad}
+use Rattle.maps.specs.Bytes.{countsOf, bodyAt, start2, start3, start4, decode}
 use Rattle.maps.specs.Judge.{sound, judge}
 use Rattle.maps.specs.Sound.{Sound}
 use Rattle.maps.proofs.Judged.{numbers-length, roads-length, road-is, Shown, judged-shown, judged-sound}
 use Rattle.map_bytes.specs.Copied.{Copied}
 use Rattle.map_borders.specs.Sizes.{Given, Lifts, Sizes}
-use Rattle.map_judge.specs.Asked.{asked, Limited}
+use Rattle.map_judge.specs.Asked.{asked}
 use Rattle.map_judge.proofs.Shown.{shows-by, given-by}
 use Rattle.opening_sections.specs.Sections as sections
 use Rattle.opening_map.specs.Counted.{Counted}

@@ -3,24 +3,23 @@
 use mathlib.Core.Path.{_≡_, refl, ap, ap₂, sym, subst, _∙_}
 use mathlib.Core.Bool.{Bool, true, false, _&&_, cond}
 use mathlib.Core.List.{List, [], _∷_, _++_, List·Memᴰ}
-use Prim.Native.Nat.{ℕ, zero, suc, _+_, _*_, _-_, _≤_, _<_}
-use native.Mathlib.Nat.{mul-le-mul-left, mul-le-mul-right}
+use Prim.Native.Nat.{ℕ, suc, _+_, _*_, _-_, _≤_, _<_}
+use native.Mathlib.Nat.{mul-le-mul-left}
 use native.Mathlib.Decide.{ℕ-discrete}
 use native.Mathlib.Omega.{arith}
-use lib.ListN.{length, getD, set, length-set, List·getD-eq-default}
+use lib.ListN.{length, set, length-set, List·getD-eq-default}
 use lib.Seq.{sets, getD-set-same, getD-set-other}
 use lib.Dec.{eqb, ltb}
 use borrow.Author.Tests.{eq-eqb, ne-eqb, lt-ltb, le-ltb}
-use Rattle.words.specs.Limits.{NONE, mostParts}
 use Rattle.words.specs.Lists.{word, countFrom, upTo, keep, firstOr}
 use Rattle.words.proofs.Lists.{countFrom-below, keep-same}
 use Rattle.words.proofs.Places.{countFrom-from}
-use Rattle.words.proofs.Sums.{sum-last, sum-below}
+use Rattle.words.proofs.Sums.{sum-last}
 use Rattle.words.proofs.Stores.{stored-join}
 use Rattle.words.proofs.Ranks.{keep-none, keep-split}
 use Rattle.roads.specs.Map.{Map, partCount}
 use Rattle.parts.specs.Tree.{parentOf, children}
-use Rattle.parts.specs.Size.{sizeOf, tableWordsBelow, tableWords, rowsBelow, rowCount, need}
+use Rattle.parts.specs.Size.{sizeOf, tableWordsBelow, tableWords, rowsBelow, rowCount}
 use Rattle.image.specs.Places.{partsAt, rowsAt, tablesAt, tableOf, firstRowOf}
 use Rattle.image.specs.Image.{nextSibling, partRecord}
 use Rattle.image.proofs.Records.{rows-start, rows-end}

@@ -7,8 +7,7 @@ use Prim.Native.Nat.{ℕ, suc, _+_, _*_, _≤_, _<_}
 use native.Mathlib.Decide.{ℕ-discrete}
 use native.Mathlib.Omega.{arith}
 use lib.ListN.{length, drop, set, length-set, drop-of-length-le}
-use lib.Seq.{sets, drop-cons, getD-set-same, getD-set-other, drop-length}
-use lib.Dec.{eqb}
+use lib.Seq.{sets, drop-cons, getD-set-same, getD-set-other}
 use borrow.Author.Tests.{eq-eqb, ne-eqb}
 use Rattle.words.specs.Lists.{word, link}
 use Rattle.roads.specs.Map.{Road, Map, roadCount, roadAt, noRoad}

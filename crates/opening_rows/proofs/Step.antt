@@ -4,16 +4,16 @@ use mathlib.Core.Path.{_≡_, refl, ap, ap₂, sym, subst, _∙_}
 use mathlib.Core.Logic.{_⊎_, inl, inr, _≢_}
 use mathlib.Core.Bool.{Bool, true, false, _&&_, cond, true≢false}
 use mathlib.Core.List.{List, [], _∷_}
-use Prim.Native.Nat.{ℕ, zero, suc, _+_, _*_, _-_, _≤_, _<_, _%_, _^_}
+use Prim.Native.Nat.{ℕ, suc, _+_, _*_, _-_, _≤_, _<_, _%_, _^_}
 use native.Mathlib.Decide.{ℕ-discrete, decLt}
 use native.Mathlib.Omega.{arith}
-use lib.ListN.{length, getD, set, length-set}
+use lib.ListN.{length, set, length-set}
 use lib.Seq.{sets, length-sets, getD-set-same, getD-set-other}
-use lib.Dec.{eqb, ltb, leb}
+use lib.Dec.{ltb, leb}
 use borrow.Author.Tests.{lt-ltb, le-ltb, le-leb, lt-leb}
 use Rattle.words.specs.Limits.{mostParts}
 use Rattle.words.specs.Lists.{word}
-use Rattle.words.proofs.Tests.{true-or-false, both-true}
+use Rattle.words.proofs.Tests.{true-or-false}
 use Rattle.words.proofs.Stores.{stored-in, stored-out}
 use Rattle.roads.specs.Map.{Map, partCount}
 use Rattle.roads.proofs.Trail.{Net}
@@ -21,7 +21,6 @@ use Rattle.parts.specs.Tree.{parentOf, leafOf, holds}
 use Rattle.parts.specs.Size.{sizeOf, need}
 use Rattle.parts.proofs.Down.{Tree}
 use Rattle.parts.proofs.Way.{in-own-leaf}
-use Rattle.maps.specs.Sound.{Sound}
 use Rattle.maps.proofs.Distances.{sound-net, sound-tree}
 use Rattle.image.specs.Places.{itselfAt, firstRowOf, rowAt}
 use Rattle.image.specs.Image.{partBelow, rowBelow}

@@ -3,20 +3,19 @@
 use mathlib.Core.Path.{_≡_, refl, subst, _∙_}
 use mathlib.Core.Logic.{⊎-elim}
 use mathlib.Core.Bool.{Bool, true, false, cond}
-use mathlib.Core.List.{List, List·Memᴰ}
-use Prim.Native.Nat.{ℕ, suc, _+_, _*_, _≤_, _<_, _^_}
+use mathlib.Core.List.{List}
+use Prim.Native.Nat.{ℕ, _+_, _*_, _<_}
 use native.Mathlib.Omega.{arith}
-use lib.ListN.{length, getD, replicate, length-replicate, getD-replicate}
+use lib.ListN.{length, replicate, length-replicate, getD-replicate}
 use Rattle.words.specs.Limits.{mostParts, mostVertices}
 use Rattle.words.specs.Lists.{word, link}
-use Rattle.words.proofs.Tests.{true-or-false}
 use Rattle.words.proofs.Places.{entry-in}
-use Rattle.roads.specs.Map.{Road, Map, partCount, roadCount, roadAt, noRoad}
+use Rattle.roads.specs.Map.{Map, partCount, roadAt, noRoad}
 use Rattle.parts.specs.Tree.{isLeaf, verticesOf}
 use Rattle.parts.specs.Border.{borders}
-use Rattle.parts.specs.Size.{rowVertices, sizeOf, need}
+use Rattle.parts.specs.Size.{rowVertices, sizeOf}
 use Rattle.maps.specs.Sound.{Sound}
-use Rattle.image.specs.Places.{verticesAt, roadsAt, vansAt, tablesAt, rowsAt, firstRowOf}
+use Rattle.image.specs.Places.{verticesAt, rowsAt, firstRowOf}
 use Rattle.image.specs.Image.{endsAt}
 use Rattle.image.proofs.Records.{vertices-start, roads-start, vans-start, tables-start, rows-start, rows-end}
 use Rattle.records.specs.Written.{Written}

@@ -1,38 +1,36 @@
 -- The sections, one after the other, agree with the image of an empty fleet.
 -- Assumes nothing.
-use mathlib.Core.Path.{_≡_, refl, ap, ap₂, sym, subst, _∙_}
-use mathlib.Core.Logic.{_⊎_, inl, inr}
+use mathlib.Core.Path.{_≡_, ap, sym, subst, _∙_}
+use mathlib.Core.Logic.{inl, inr}
 use mathlib.Core.Bool.{true}
-use mathlib.Core.List.{List, [], _∷_, _++_, List·Memᴰ}
-use Prim.Native.Nat.{ℕ, suc, _+_, _*_, _-_, _≤_, _<_}
+use mathlib.Core.List.{List, [], _∷_, List·Memᴰ}
+use Prim.Native.Nat.{ℕ, _+_, _*_, _-_, _≤_, _<_}
 use native.Mathlib.Nat.{zero-add}
 use native.Mathlib.Omega.{arith}
-use lib.ListN.{length, getD, replicate, getD-replicate}
+use lib.ListN.{length, replicate, getD-replicate}
 use lib.Seq.{sets, length-sets}
 use Rattle.words.specs.Limits.{headMark, vans}
-use Rattle.words.specs.Lists.{word, upTo, placeIn, keep}
-use Rattle.words.proofs.Sums.{InRecord, in-record}
+use Rattle.words.specs.Lists.{word, upTo}
+use Rattle.words.proofs.Sums.{in-record}
 use Rattle.words.proofs.Stores.{stored-join}
 use Rattle.words.proofs.Places.{entry-in, place-of-entry}
 use Rattle.words.proofs.Lists.{keep-says}
-use Rattle.words.specs.Ranks.{rank}
 use Rattle.roads.specs.Map.{Map, partCount, roadCount}
 use Rattle.parts.specs.Size.{rowVertices, sizeOf, need}
 use Rattle.parts.proofs.Rows.{row-vertex, rows-unique}
 use Rattle.fleet.specs.State.{freshState}
-use Rattle.image.specs.Places.{verticesAt, roadsAt, vansAt, tablesAt, rowsAt, firstRowOf, rowAt}
+use Rattle.image.specs.Places.{verticesAt, roadsAt, vansAt, tablesAt, firstRowOf, rowAt}
 use Rattle.image.specs.Image.{headPart, partRecord, image}
 use Rattle.image.specs.Records.{rowVertex, roadRecord}
 use Rattle.image.proofs.Length.{head-length}
 use Rattle.image.proofs.Records.{vertices-start, roads-start, vans-start, tables-start, rows-start, rows-end, head-word, part-word, vertex-word, road-word, van-word, shown-word}
 use Rattle.records.specs.Cleared.{cleared}
-use Rattle.records.specs.Written.{Written}
 use Rattle.records.specs.Agrees.{Agrees}
-use Rattle.records.proofs.Agrees.{agrees-join, agrees-within, written-agrees, written-kept, stored-agrees, stored-kept, cleared-agrees, cleared-kept}
-use Rattle.opening_fresh.specs.Fresh.{freshVertex, freshRow}
+use Rattle.records.proofs.Agrees.{agrees-join, agrees-within, written-agrees, written-kept, stored-agrees, cleared-agrees, cleared-kept}
+use Rattle.opening_fresh.specs.Fresh.{freshVertex}
 use Rattle.opening_fresh.proofs.Fresh.{fresh-slots, fresh-count, fresh-vertex, fresh-row, fresh-van}
 use Rattle.opening_parts.specs.Parts.{PartsStand}
-use Rattle.opening_rows.specs.Rows.{hasRow, rowPlace, RowsStand}
+use Rattle.opening_rows.specs.Rows.{hasRow, rowPlace}
 use Rattle.opening_rows.proofs.Places.{rows-kept, place-row}
 use Rattle.opening_sections.specs.Sections.{headWords, Shown, NetStands, RowsDone, Sections}
 

@@ -1,12 +1,12 @@
 -- One vertex more.
 -- Assumes nothing.
 use mathlib.Core.Path.{_≡_, refl, ap, ap₂, sym, subst, _∙_}
-use mathlib.Core.Bool.{Bool, true, false}
-use mathlib.Core.List.{List, [], _∷_, _++_}
+use mathlib.Core.Bool.{Bool}
+use mathlib.Core.List.{List, [], _∷_}
 use Prim.Native.Nat.{ℕ, zero, suc, _+_, _*_, _≤_, _<_, _%_, _^_}
 use native.Mathlib.Decide.{ℕ-discrete, decLt}
 use native.Mathlib.Omega.{arith}
-use lib.ListN.{length, getD, set, length-set}
+use lib.ListN.{length, set, length-set}
 use lib.Seq.{sets, getD-set-same, getD-set-other}
 use lib.Dec.{eqb, ltb}
 use borrow.Author.Tests.{eq-eqb, ne-eqb, lt-ltb, le-ltb}
@@ -20,8 +20,7 @@ use Rattle.parts.specs.Tree.{leafOf, verticesOf}
 use Rattle.maps.specs.Bytes.{field, roadShown}
 use Rattle.image.specs.Places.{verticesAt}
 use Rattle.image.specs.Image.{firstRoadFrom, endsAt}
-use Rattle.records.specs.Written.{Written}
-use Rattle.records.proofs.Written.{written-none, written-up}
+use Rattle.records.proofs.Written.{written-up}
 use Rattle.opening_fresh.specs.Fresh.{vertexWords, freshVertex}
 use Rattle.opening_vertices.specs.Vertices.{Skipped, Ready, VerticesStand}
 

@@ -8,7 +8,7 @@ use records::put4;
 use rows::Row;
 use std::num::wrapping_add_u32;
 ghost use mathlib.Core.Path.{_≡_};
-ghost use Prim.Native.Nat.{ℕ, _+_, _<_, _≤_, _%_, _^_};
+ghost use Prim.Native.Nat.{_+_, _<_, _≤_, _%_, _^_};
 ghost use lib.ListN.{set};
 ghost use lib.Seq.{sets};
 ghost use Rattle.words.specs.Lists.{word};

@@ -1,15 +1,15 @@
 -- Sections that agree with a target, one after the other.
 -- Assumes nothing.
-use mathlib.Core.Path.{_≡_, refl, ap, sym, _∙_}
+use mathlib.Core.Path.{_≡_, ap, sym, _∙_}
 use mathlib.Core.Logic.{_⊎_, inl, inr}
 use mathlib.Core.List.{List}
-use Prim.Native.Nat.{ℕ, suc, _+_, _*_, _-_, _≤_, _<_}
+use Prim.Native.Nat.{ℕ, _+_, _*_, _-_, _≤_, _<_}
 use native.Mathlib.Decide.{decLt}
 use native.Mathlib.Omega.{arith}
 use lib.ListN.{length, replicate, length-replicate, getD-replicate}
 use lib.Seq.{sets}
 use Rattle.words.specs.Lists.{word}
-use Rattle.words.proofs.Sums.{InRecord, in-record, record-within}
+use Rattle.words.proofs.Sums.{in-record, record-within}
 use Rattle.words.proofs.Stores.{stored-in, stored-out}
 use Rattle.records.specs.Cleared.{cleared}
 use Rattle.records.specs.Written.{Within, Written}

@@ -1,10 +1,10 @@
 -- The stores of `put4` and of `clear`, one after the other, are a run of stores.
 -- Assumes nothing.
-use mathlib.Core.Path.{_≡_, refl, ap, ap₂, sym, _∙_}
-use mathlib.Core.List.{List, [], _∷_, _++_}
-use Prim.Native.Nat.{ℕ, zero, suc, _+_, _-_, _<_, _≤_}
+use mathlib.Core.Path.{_≡_, ap, ap₂, sym, _∙_}
+use mathlib.Core.List.{List, [], _∷_}
+use Prim.Native.Nat.{ℕ, suc, _+_, _-_, _<_, _≤_}
 use native.Mathlib.Omega.{arith}
-use lib.ListN.{length, set, replicate}
+use lib.ListN.{set, replicate}
 use lib.Seq.{sets}
 
 pub four : (mem p q r s : List ℕ) (base at a b c d : ℕ) → base ≡ at → p ≡ set mem base a → q ≡ set p (base + 1) b → r ≡ set q (base + 2) c → s ≡ set r (base + 3) d

@@ -1,4 +1,4 @@
-// The roads between the row vertices of a part: each lowers one word of the part's table.
+// The roads between the row vertices of a part: each lowers one word of the part's table, and marks its ends where it leads out of a child.
 ghost use mathlib.Core.Path.{_≡_};
 ghost use Prim.Native.Nat.{suc, _≤_, _<_};
 ghost use lib.ListN.{length};
@@ -6,7 +6,7 @@ ghost use Rattle.roads.specs.Map.{Map, partCount, roadCount};
 ghost use Rattle.parts.specs.Size.{sizeOf};
 ghost use Rattle.image.specs.Image.{firstRoadFrom};
 ghost use Rattle.assembly.specs.Laid.{Laid};
-ghost use Rattle.assembly.specs.Steps.{Noted, RoadsOf, Roads};
+ghost use Rattle.assembly.specs.Steps.{Noted, Marked, RoadsOf, Roads};
 use cells::put;
 use cells::wide;
 use cells::word;
@@ -14,6 +14,7 @@ use table_words::line_of;
 use table_words::lower;
 use table_words::of_part;
 use table_words::of_row;
+use table_words::part_of;
 use table_words::vertex_of;
 
 // The place of each row vertex of part p.
@@ -42,10 +43,25 @@ fn first_road(mem: &[u32], v: u32) -> u32
     word(mem, 3)
 }
 
+// Rows i and j are marked as halts, unless one child d, e holds the vertices of both.
+fn mark(marks: &mut [u32], i: u32, j: u32, d: u32, e: u32)
+    ensures { λ r. ⌜ Marked (now (marks .entry)) i j d e (now (marks .exit)) ⌝ }
+    ensures { λ r. ⌜ length (now (marks .exit)) ≡ length (now (marks .entry)) ⌝ }
+{
+    if d == e {
+        if d != 0 {
+            return;
+        }
+    }
+    put(marks, wide(i), 1);
+    put(marks, wide(j), 1);
+}
+
 // Road r, where it leads from the vertex of row i of part p to that of another row. The noted place is tested.
-fn lower_by_road(mem: &mut [u32], place: &[u32], p: u32, i: u32, r: u32)
-    ensures { λ _. ⌜ ((m : Map) → Laid m (now (mem .entry)) → p < partCount m → i < sizeOf m p → r < roadCount m → Noted m p (sizeOf m p) (now (place .entry)) → RoadsOf m p i r (suc r) (now (mem .entry)) (now (mem .exit))) ⌝ }
+fn lower_by_road(mem: &mut [u32], place: &[u32], marks: &mut [u32], p: u32, i: u32, r: u32)
+    ensures { λ _. ⌜ ((m : Map) → Laid m (now (mem .entry)) → p < partCount m → i < sizeOf m p → r < roadCount m → Noted m p (sizeOf m p) (now (place .entry)) → 128 ≤ length (now (marks .entry)) → RoadsOf m p i r (suc r) (now (mem .entry)) (now (mem .exit)) (now (marks .entry)) (now (marks .exit))) ⌝ }
     ensures { λ _. ⌜ length (now (mem .exit)) ≡ length (now (mem .entry)) ⌝ }
+    ensures { λ _. ⌜ length (now (marks .exit)) ≡ length (now (marks .entry)) ⌝ }
 {
     let road = 64 + 8 * wide(word(mem, 4)) + 8 * wide(word(mem, 2)) + 4 * wide(r);
     let size = of_part(mem, p, 1);
@@ -55,41 +71,46 @@ fn lower_by_road(mem: &mut [u32], place: &[u32], p: u32, i: u32, r: u32)
     let to = word(mem, road + 1);
     let weight = word(mem, road + 2);
     let j = word(place, wide(to));
-    if from != vertex_of(of_row(mem, first, i, 2)) {
+    let own = of_row(mem, first, i, 2);
+    if from != vertex_of(own) {
         return;
     }
     if size <= j {
         return;
     }
-    if to != vertex_of(of_row(mem, first, j, 2)) {
+    let other = of_row(mem, first, j, 2);
+    if to != vertex_of(other) {
         return;
     }
+    mark(marks, i, j, part_of(own), part_of(other));
     lower(mem, line_of(table, size, i) + wide(j), weight);
 }
 
-fn lower_by_roads(mem: &mut [u32], place: &[u32], p: u32, i: u32)
-    ensures { λ r. ⌜ ((m : Map) → Laid m (now (mem .entry)) → p < partCount m → i < sizeOf m p → Noted m p (sizeOf m p) (now (place .entry)) → RoadsOf m p i 0 (roadCount m) (now (mem .entry)) (now (mem .exit))) ⌝ }
+fn lower_by_roads(mem: &mut [u32], place: &[u32], marks: &mut [u32], p: u32, i: u32)
+    ensures { λ r. ⌜ ((m : Map) → Laid m (now (mem .entry)) → p < partCount m → i < sizeOf m p → Noted m p (sizeOf m p) (now (place .entry)) → 128 ≤ length (now (marks .entry)) → RoadsOf m p i 0 (roadCount m) (now (mem .entry)) (now (mem .exit)) (now (marks .entry)) (now (marks .exit))) ⌝ }
     ensures { λ r. ⌜ length (now (mem .exit)) ≡ length (now (mem .entry)) ⌝ }
+    ensures { λ r. ⌜ length (now (marks .exit)) ≡ length (now (marks .entry)) ⌝ }
 {
     let first = of_part(mem, p, 2);
     let v = vertex_of(of_row(mem, first, i, 2));
     let mut r = first_road(mem, v);
     let end = first_road(mem, v + 1);
     while r < end {
-        lower_by_road(mem, place, p, i, r);
+        lower_by_road(mem, place, marks, p, i, r);
         r += 1;
     }
 }
 
 // All roads between row vertices of part p.
-pub fn take_roads(mem: &mut [u32], place: &[u32], p: u32)
-    ensures { λ r. ⌜ ((m : Map) → Laid m (now (mem .entry)) → p < partCount m → Noted m p (sizeOf m p) (now (place .entry)) → Roads m p (sizeOf m p) (now (mem .entry)) (now (mem .exit))) ⌝ }
+pub fn take_roads(mem: &mut [u32], place: &[u32], marks: &mut [u32], p: u32)
+    ensures { λ r. ⌜ ((m : Map) → Laid m (now (mem .entry)) → p < partCount m → Noted m p (sizeOf m p) (now (place .entry)) → 128 ≤ length (now (marks .entry)) → Roads m p (sizeOf m p) (now (mem .entry)) (now (mem .exit)) (now (marks .entry)) (now (marks .exit))) ⌝ }
     ensures { λ r. ⌜ length (now (mem .exit)) ≡ length (now (mem .entry)) ⌝ }
+    ensures { λ r. ⌜ length (now (marks .exit)) ≡ length (now (marks .entry)) ⌝ }
 {
     let size = of_part(mem, p, 1);
     let mut i: u32 = 0;
     while i < size {
-        lower_by_roads(mem, place, p, i);
+        lower_by_roads(mem, place, marks, p, i);
         i += 1;
     }
 }

@@ -9,7 +9,8 @@ ghost use Rattle.roads.specs.Map.{Map, partCount};
 ghost use Rattle.parts.specs.Size.{sizeOf};
 ghost use Rattle.assembly.specs.Laid.{Laid, Filled};
 ghost use Rattle.assembly.specs.Lower.{Inside};
-ghost use Rattle.assembly.specs.Steps.{AtHome, Closed, EnteredRow, Entered, Risen, Descended};
+ghost use Rattle.assembly.specs.Steps.{AtHome, HaltTried, Closed, EnteredRow, Entered, Risen, Descended};
+use cells::wide;
 use cells::word;
 use table_pairs::agree;
 use table_roads::note_rows;
@@ -21,16 +22,25 @@ use table_words::of_row;
 use table_words::part_of;
 use table_words::place_of;
 
-// Every row vertex of part p is tried in its table.
-fn close(mem: &mut [u32], p: u32)
-    ensures { λ r. ⌜ ((m : Map) → Laid m (now (mem .entry)) → p < partCount m → AtHome m p (now (mem .entry)) → Closed m p (sizeOf m p) (now (mem .entry)) (now (mem .exit))) ⌝ }
+// Row k is tried, if it is marked as a halt.
+fn try_halt(mem: &mut [u32], marks: &[u32], table: u32, size: u32, k: u32)
+    ensures { λ r. ⌜ HaltTried table size k (now (marks .entry)) (now (mem .entry)) (now (mem .exit)) ⌝ }
+{
+    if word(marks, wide(k)) == 1 {
+        try_at(mem, table, size, k);
+    }
+}
+
+// Every halt of part p is tried in its table.
+fn close(mem: &mut [u32], marks: &[u32], p: u32)
+    ensures { λ r. ⌜ ((m : Map) → Laid m (now (mem .entry)) → p < partCount m → AtHome m p (now (mem .entry)) → Closed m p (sizeOf m p) (now (marks .entry)) (now (mem .entry)) (now (mem .exit))) ⌝ }
     ensures { λ r. ⌜ length (now (mem .exit)) ≡ length (now (mem .entry)) ⌝ }
 {
     let size = of_part(mem, p, 1);
     let table = of_part(mem, p, 3);
     let mut k: u32 = 0;
     while k < size {
-        try_at(mem, table, size, k);
+        try_halt(mem, marks, table, size, k);
         k += 1;
     }
 }
@@ -43,11 +53,12 @@ fn rise(mem: &mut [u32], place: &mut [u32], p: u32)
 {
     let size = of_part(mem, p, 1);
     let table = of_part(mem, p, 3);
+    let mut marks = [0u32; 128];
     blank_at(mem, table, size);
     note_rows(mem, p, place);
-    take_roads(mem, place, p);
+    take_roads(mem, place, &mut marks, p);
     agree(mem, p);
-    close(mem, p);
+    close(mem, &marks, p);
 }
 
 fn rise_parts(mem: &mut [u32], place: &mut [u32])

@@ -18,10 +18,13 @@
 //! - `runs.answers`: `RUN LINE`, the lines that the desk program would print;
 //! - `runs.rows`: `RUN PLACE VERTEX:DISTANCE ..`, after the opening (place 0) and after each accepted change the rows of all parts in
 //!   the order of the memory.
+//!
+//! `vectors opening DIRECTORY` writes the maps that the program `opening_cases` opens, below `data/`, and what it prints as `stdout`.
 
 mod build;
 mod desk;
 mod groups;
+mod opening;
 mod runs;
 
 use reference::{judge, need};
@@ -45,8 +48,11 @@ fn main() -> std::io::Result<()> {
         [directory] => write_all(Path::new(directory), &maps()),
         [kind, directory] if kind == "desk" => write_all(Path::new(directory), &desk_inputs()),
         [kind, directory] if kind == "runs" => write_all(Path::new(directory), &runs::files()),
+        [kind, directory] if kind == "opening" => {
+            write_all(Path::new(directory), &opening::files())
+        }
         _ => Err(std::io::Error::other(
-            "usage: vectors [desk | runs] DIRECTORY",
+            "usage: vectors [desk | runs | opening] DIRECTORY",
         )),
     }
 }
@@ -58,7 +64,11 @@ pub type Files = Vec<(String, Vec<u8>)>;
 fn write_all(directory: &Path, files: &Files) -> std::io::Result<()> {
     fs::create_dir_all(directory)?;
     for (name, bytes) in files {
-        fs::write(directory.join(name), bytes)?;
+        let path = directory.join(name);
+        if let Some(above) = path.parent() {
+            fs::create_dir_all(above)?;
+        }
+        fs::write(path, bytes)?;
     }
     let bytes: usize = files.iter().map(|(_, bytes)| bytes.len()).sum();
     println!("{} files, {bytes} bytes", files.len());

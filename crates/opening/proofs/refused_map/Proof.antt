@@ -1,7 +1,6 @@
 -- `refused_map` has a case for each refusal of a map.
 -- Assumes nothing.
-use mathlib.Core.Path.{_≡_, ap, sym}
-use Prim.Native.Nat.{ℕ}
+use mathlib.Core.Path.{ap, sym}
 use native.Mathlib.Omega.{arith}
 use Rattle.fleet.specs.Change.{refused}
 use Rattle.opening.proofs.refused_map.Statement.{statement}

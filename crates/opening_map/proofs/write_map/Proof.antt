@@ -1,6 +1,6 @@
 -- `write_map` reads the parents and the leaves, and writes the sections of the map that the bytes show.
 -- Assumes nothing.
-use mathlib.Core.Path.{refl, _∙_}
+use mathlib.Core.Path.{refl}
 use Rattle.maps.proofs.Judged.{judged-sound}
 use Rattle.opening_map.proofs.Given.{given-map}
 use borrow.Author.Needs.{needs}

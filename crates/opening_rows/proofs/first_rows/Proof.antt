@@ -1,9 +1,8 @@
 -- `first_rows` reads the parts' records one after the other.
 -- Assumes nothing.
-use mathlib.Core.Path.{_≡_, refl, subst, _∙_}
+use mathlib.Core.Path.{subst}
 use Prim.Native.Nat.{ℕ, _-_, _≤_}
 use native.Mathlib.Omega.{arith}
-use lib.ListN.{length}
 use borrow.Author.Needs.{needs}
 use Rattle.opening_rows.specs.Rows.{FirstRows}
 use Rattle.opening_rows.proofs.Step.{first-none, first-more}

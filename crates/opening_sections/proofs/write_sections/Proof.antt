@@ -1,7 +1,6 @@
 -- `write_sections` writes each section of a sound map that is shown.
 -- Assumes nothing.
-use mathlib.Core.Path.{_≡_, refl, _∙_}
-use lib.ListN.{length}
+use mathlib.Core.Path.{refl, _∙_}
 use Rattle.opening_sections.proofs.Stand.{front-stands, first-row-stands, sections-stand}
 use borrow.Author.Needs.{needs}
 use Rattle.opening_sections.proofs.write_sections.Statement.{statement}

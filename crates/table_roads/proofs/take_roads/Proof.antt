@@ -1,7 +1,7 @@
 -- `table_roads::take_roads` meets its contract. The loop's invariant: the roads from the rows passed are taken.
 -- Assumes nothing.
 use borrow.Author.Needs.{needs}
-use mathlib.Core.Path.{_≡_, refl}
+use mathlib.Core.Path.{_≡_, refl, _∙_}
 use Prim.Native.Nat.{_≤_, _-_}
 use lib.ListN.{length}
 use Rattle.assembly.proofs.Roads.{RowsTaken, taken-first, taken-turn, taken-done}
@@ -9,16 +9,16 @@ use Rattle.table_roads.proofs.take_roads.Statement.{statement}
 use Rattle.table_roads.proofs.take_roads.Tie as tie
 
 abbrev Inv-loop : tie.InvT-loop
-Inv-loop mem₀ place p size i₀ mem i = (i ≤ size) × (length mem ≡ length mem₀) × RowsTaken mem₀ place p i mem
+Inv-loop mem₀ place marks₀ p size i₀ mem marks i = (i ≤ size) × (length mem ≡ length mem₀) × (length marks ≡ length marks₀) × RowsTaken mem₀ place marks₀ p i mem marks
 
 abbrev μ-loop : tie.MeasureT-loop
-μ-loop mem₀ place p size i₀ mem i = size - i
+μ-loop mem₀ place marks₀ p size i₀ mem marks i = size - i
 
 of-part-requires : tie.Need-of-part-requires Inv-loop μ-loop
 of-part-requires c κs = search needs
 
 loop-holds : tie.Need-loop-holds Inv-loop μ-loop
-loop-holds c = (search needs, refl, taken-first _ _ _)
+loop-holds c = (search needs, refl, refl, taken-first _ _ _ _)
 
 lower-by-roads-requires : tie.Need-lower-by-roads-requires Inv-loop μ-loop
 lower-by-roads-requires c κs = search needs
@@ -30,13 +30,16 @@ loop-less : tie.Need-loop-less Inv-loop μ-loop
 loop-less c = search needs
 
 loop-again : tie.Need-loop-again Inv-loop μ-loop
-loop-again c = (search needs, search needs, taken-turn _ _ _ _ _ _ (search needs) (c .before .before .before .before .before .before .of-part .ensures) (c .before .before .before .before .before .loop .inv .2) (c .before .before .lower-by-roads .ensures .0))
+loop-again c = (search needs, c .before .before .before .before .lower-by-roads .ensures .1 .0 ∙ c .before .before .before .before .before .before .before .before .loop .inv .1, c .before .before .before .before .lower-by-roads .ensures .1 .1 ∙ c .before .before .before .before .before .before .before .before .loop .inv .2, taken-turn _ _ _ _ _ _ _ _ _ (c .before .before .before .before .before .before .before .before .loop .inv .2) (search needs) (c .before .before .before .before .before .before .before .before .before .of-part .ensures) (c .before .before .before .before .before .before .before .before .loop .inv .3) (c .before .before .before .before .lower-by-roads .ensures .0))
 
 same-length : tie.Need-same-length Inv-loop μ-loop
 same-length c = search needs
 
+same-length-2 : tie.Need-same-length-2 Inv-loop μ-loop
+same-length-2 c = search needs
+
 returns : tie.Need-returns Inv-loop μ-loop
-returns c = (taken-done _ _ _ _ _ (c .before .loop .inv .0) (search needs) (c .before .before .of-part .ensures) (c .before .loop .inv .2), c .before .loop .inv .1)
+returns c = (taken-done _ _ _ _ _ _ _ (c .before .loop .inv .0) (search needs) (c .before .before .of-part .ensures) (c .before .loop .inv .3), (c .before .loop .inv .1, c .before .loop .inv .2))
 
 pub take-roads-spec : {M : Type 1} → statement M
 take-roads-spec =
@@ -51,4 +54,5 @@ take-roads-spec =
     loop-less
     loop-again
     same-length
+    same-length-2
     returns)

@@ -9,10 +9,10 @@ use Rattle.tables.proofs.close.Statement.{statement}
 use Rattle.tables.proofs.close.Tie as tie
 
 abbrev Inv-loop : tie.InvT-loop
-Inv-loop mem₀ p size table k₀ mem k = (k ≤ size) × (length mem ≡ length mem₀) × ClosedTo mem₀ p k mem
+Inv-loop mem₀ marks p size table k₀ mem k = (k ≤ size) × (length mem ≡ length mem₀) × ClosedTo mem₀ marks p k mem
 
 abbrev μ-loop : tie.MeasureT-loop
-μ-loop mem₀ p size table k₀ mem k = size - k
+μ-loop mem₀ marks p size table k₀ mem k = size - k
 
 of-part-requires : tie.Need-of-part-requires Inv-loop μ-loop
 of-part-requires c κs = search needs
@@ -21,10 +21,10 @@ of-part-requires-2 : tie.Need-of-part-requires-2 Inv-loop μ-loop
 of-part-requires-2 c κs = search needs
 
 loop-holds : tie.Need-loop-holds Inv-loop μ-loop
-loop-holds c = (search needs, refl, closed-first _ _)
+loop-holds c = (search needs, refl, closed-first _ _ _)
 
-try-at-requires : tie.Need-try-at-requires Inv-loop μ-loop
-try-at-requires c κs = search needs
+try-halt-requires : tie.Need-try-halt-requires Inv-loop μ-loop
+try-halt-requires c κs = search needs
 
 add-k : tie.Need-add-k Inv-loop μ-loop
 add-k c = search needs
@@ -33,13 +33,13 @@ loop-less : tie.Need-loop-less Inv-loop μ-loop
 loop-less c = search needs
 
 loop-again : tie.Need-loop-again Inv-loop μ-loop
-loop-again c = (search needs, c .before .before .try-at .ensures .sized ∙ c .before .before .before .before .before .loop .inv .1, closed-turn _ _ _ _ _ (search needs) (c .before .before .before .before .before .before .before .before .of-part .ensures) (c .before .before .before .before .before .before .of-part2 .ensures) (c .before .before .before .before .before .loop .inv .2) (c .before .before .try-at .ensures))
+loop-again c = (search needs, c .before .before .try-halt .ensures .sized ∙ c .before .before .before .before .before .loop .inv .1, closed-turn _ _ _ _ _ _ (search needs) (c .before .before .before .before .before .before .before .before .of-part .ensures) (c .before .before .before .before .before .before .of-part2 .ensures) (c .before .before .before .before .before .loop .inv .2) (c .before .before .try-halt .ensures))
 
 same-length : tie.Need-same-length Inv-loop μ-loop
 same-length c = search needs
 
 returns : tie.Need-returns Inv-loop μ-loop
-returns c = (closed-done _ _ _ _ (c .before .loop .inv .0) (search needs) (c .before .before .before .before .of-part .ensures) (c .before .loop .inv .2), c .before .loop .inv .1)
+returns c = (closed-done _ _ _ _ _ (c .before .loop .inv .0) (search needs) (c .before .before .before .before .of-part .ensures) (c .before .loop .inv .2), c .before .loop .inv .1)
 
 pub close-spec : {M : Type 1} → statement M
 close-spec =
@@ -50,7 +50,7 @@ close-spec =
     of-part-requires
     of-part-requires-2
     loop-holds
-    try-at-requires
+    try-halt-requires
     add-k
     loop-less
     loop-again
