@@ -1,6 +1,6 @@
 -- The least of many distances, one more at a time.
 -- Assumes nothing.
-use mathlib.Core.Path.{_≡_, refl, ap, subst}
+use mathlib.Core.Path.{_≡_, refl, ap, subst, _∙_}
 use mathlib.Core.Logic.{_⊎_, inl, inr, ⊎-elim}
 use Prim.Native.Nat.{ℕ, suc, _+_, _≤_, _<_, min}
 use native.Mathlib.Nat.{eq-or-lt-of-le}
@@ -49,3 +49,12 @@ module _ (f : ℕ → ℕ) where
 
   pub least-stays-by : {n r w : ℕ} → Least f n r → w ≡ f n → r ≤ w → Least f (n + 1) r
   least-stays-by {n} l e more = least-stays {w = min (f n) FAR} l refl (omega (arith, l .most))
+
+-- the least of the same distances
+pub least-same : (f g : ℕ → ℕ) {n r : ℕ} → ((t : ℕ) → t < n → f t ≡ g t) → Least f n r → Least g n r
+least-same f g same l =
+    record {
+      most = l .most;
+      below = λ t h. omega (arith, l .below t h, same t h);
+      found = ⊎-elim inl (λ (t, h, e). inr (t, h, e ∙ same t h)) (l .found);
+    }

@@ -3,14 +3,16 @@
 use mathlib.Core.Path.{_≡_, refl, sym, ap, subst, _∙_}
 use mathlib.Core.Logic.{_⊎_, inl, inr}
 use mathlib.Core.List.{List}
-use Prim.Native.Nat.{ℕ, suc, _+_, _*_, _%_, _≤_, _<_, min}
+use Prim.Native.Nat.{ℕ, suc, _+_, _-_, _*_, _%_, _≤_, _<_, min}
 use native.Mathlib.Decide.{ℕ-discrete}
 use native.Mathlib.Omega.{arith}
-use lib.ListN.{length, set, length-set}
-use lib.Seq.{getD-set-same, getD-set-other}
+use lib.ListN.{length, set, take, drop, length-set, length-take, length-drop}
+use lib.Seq.{getD-set-same, getD-set-other, getD-take, getD-drop}
 use Rattle.words.specs.Limits.{FAR}
 use Rattle.words.specs.Lists.{word}
-use Rattle.part_bounds.specs.Bounds.{ownerAt, nearAt, Gathered, wayIn}
+use Rattle.far_sums.specs.Least.{Least}
+use Rattle.far_sums.proofs.Least.{least-same}
+use Rattle.part_bounds.specs.Bounds.{ownerAt, nearAt, Gathered, wayIn, wayOver}
 
 module _ {mem : List ℕ} {first : ℕ} {dx : List ℕ} where
   pub gathered-none : {places near : List ℕ} → length places ≡ 128 → length near ≡ 128 → Gathered mem first dx 0 places near 0
@@ -85,3 +87,26 @@ pub way-next : (mem : List ℕ) (at t : ℕ) (places near : List ℕ) {j place t
 unfolding wayIn
 way-next mem at t places near isPlace isWide isTable isNear isWay =
     isWay ∙ (λ i. min ((isTable ∙ ap (λ (k : ℕ). word mem (at + k)) (isWide ∙ isPlace)) i + isNear i) FAR)
+
+-- the next way over a row
+pub over-next : (row places near : List ℕ) (t : ℕ) → word row (word places t) + word near t ≡ wayOver row places near t
+unfolding wayOver
+over-next row places near t = refl
+
+-- over the words of a row that starts at `at`
+pub over-row : (mem : List ℕ) (at size : ℕ) (places near : List ℕ) (count : ℕ) {row : List ℕ} {r : ℕ} → row ≡ take size (drop at mem) → ((t : ℕ) → t < count → word places t < size)
+    → Least (wayOver row places near) count r → Least (wayIn mem at places near) count r
+unfolding wayOver wayIn
+over-row mem at size places near count {row} isRow inside l =
+    least-same (wayOver row places near) (wayIn mem at places near)
+    (λ t h. ap (λ (k : ℕ). k + word near t) (ap (λ (w : List ℕ). word w (word places t)) isRow ∙ getD-take size (drop at mem) (word places t) 0 (inside t h) ∙ getD-drop at mem (word places t) 0))
+    l
+
+-- a row that lies within the memory
+pub row-fits : (mem : List ℕ) (at size : ℕ) → at + size ≤ length mem → length (take (at + size - at) (drop at mem)) ≡ size
+row-fits mem at size h = simp (length-take, length-drop) (omega arith)
+
+pub cut-row : (mem : List ℕ) (at size : ℕ) → take (at + size - at) (drop at mem) ≡ take size (drop at mem)
+cut-row mem at size =
+    let same : at + size - at ≡ size = omega arith in
+    ap (λ (n : ℕ). take n (drop at mem)) same

@@ -3,7 +3,7 @@
 use mathlib.Core.Path.{_≡_, refl, sym, ap, subst, _∙_}
 use mathlib.Core.Logic.{_⊎_, inl, inr, ⊎-elim}
 use mathlib.Core.List.{List}
-use Prim.Native.Nat.{ℕ, _+_, _*_, _%_, _≤_, _<_}
+use Prim.Native.Nat.{ℕ, _+_, _*_, _%_, _^_, _≤_, _<_}
 use native.Mathlib.Decide.{decLt, ℕ-discrete}
 use native.Mathlib.Nat.{mul-le-mul, le-trans, le-of-lt}
 use native.Mathlib.Omega.{arith}
@@ -104,3 +104,9 @@ closer-named {mem} {dx = dx} {dx′} f t s c = rw-all f t s c
 -- a row of a table starts within it
 pub table-row : (size i : ℕ) → size ≤ 128 → i < size → size * i ≤ 16384
 table-row size i few h = le-trans (mul-le-mul few (le-trans (le-of-lt h) few)) (omega arith)
+
+-- what the way over a row asks
+pub row-asks : (mem dx : List ℕ) (table size i : ℕ) → table < 2 ^ 32 → size ≤ 128 → i < size → {first : ℕ} {places near : List ℕ} {count : ℕ} → Gathered mem first dx size places near count
+    → (table + size * i < 2 ^ 33) × (size ≤ 128) × (count ≤ length places) × (count ≤ length near) × ((t : ℕ) → t < count → word places t < size)
+row-asks mem dx table size i ht few h g =
+    (omega (arith, table-row size i few h), few, omega (arith, g .few, g .places-length), omega (arith, g .few, g .near-length), λ t ht. g .only t ht .0)

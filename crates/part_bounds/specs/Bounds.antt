@@ -42,6 +42,10 @@ pub record Gathered (mem : List ℕ) (first : ℕ) (dx : List ℕ) (size : ℕ) 
 unfoldable pub wayIn : List ℕ → ℕ → List ℕ → List ℕ → ℕ → ℕ
 wayIn mem at places near t = word mem (at + word places t) + word near t
 
+-- the same over the words of one row
+unfoldable pub wayOver : List ℕ → List ℕ → List ℕ → ℕ → ℕ
+wayOver row places near t = word row (word places t) + word near t
+
 -- a word made less, where x is less
 unfoldable pub lowered : List ℕ → ℕ → ℕ → List ℕ
 lowered words i x = cond (ltb x (word words i)) (set words i x) words

@@ -13,7 +13,7 @@ ghost use lib.ListN.{length, set};
 ghost use Rattle.words.specs.Limits.{FAR};
 ghost use Rattle.words.specs.Lists.{word};
 ghost use Rattle.far_sums.specs.Least.{Least};
-ghost use Rattle.part_bounds.specs.Bounds.{partWord, rowsIn, Gathered, wayIn, lowered, Closer, isNew, farCount, keyOf, Spread, outOf, keyAt};
+ghost use Rattle.part_bounds.specs.Bounds.{partWord, rowsIn, Gathered, wayIn, wayOver, lowered, Closer, isNew, farCount, keyOf, Spread, outOf, keyAt};
 
 pub const MOST_ROWS: usize = 128;
 
@@ -87,6 +87,37 @@ fn least_way(mem: &[u32], at: usize, places: &[u32], near: &[u32], count: usize)
     least
 }
 
+// The same over the row's own words, for which every place is within the row.
+fn least_in(row: &[u32], places: &[u32], near: &[u32], count: usize) -> u32
+    requires { ⌜ (count ≤ length (now places)) × (count ≤ length (now near)) × ((t : ℕ) → t < count → word (now places) t < length (now row)) ⌝ }
+    ensures { λ r. ⌜ Least (wayOver (now (row .entry)) (now (places .entry)) (now (near .entry))) count r ⌝ }
+{
+    let mut least: usize = 4294967295;
+    let mut t = 0;
+    while t < count {
+        let j = places[t] as usize;
+        let way = row[j] as usize + near[t] as usize;
+        if way < least {
+            least = way;
+        }
+        t += 1;
+    }
+    least as u32
+}
+
+// The least way from the row whose words start at `at`; a row beyond the memory is read word by word.
+fn row_way(mem: &[u32], at: usize, size: usize, places: &[u32], near: &[u32], count: usize) -> u32
+    requires { ⌜ (at < 2 ^ 33) × (size ≤ 128) × (count ≤ length (now places)) × (count ≤ length (now near)) × ((t : ℕ) → t < count → word (now places) t < size) ⌝ }
+    ensures { λ r. ⌜ Least (wayIn (now (mem .entry)) at (now (places .entry)) (now (near .entry))) count r ⌝ }
+{
+    let end = at + size;
+    if end <= mem.len() {
+        let row = &mem[at..end];
+        return least_in(row, places, near, count);
+    }
+    least_way(mem, at, places, near, count)
+}
+
 // A word made less, where `x` is less.
 pub fn lower(words: &mut [u32], i: usize, x: u32)
     ensures { λ _. ⌜ now (words .exit) ≡ lowered (now (words .entry)) i x ⌝ }
@@ -125,7 +156,7 @@ fn relax_rows(
 {
     let mut i = 0;
     while i < size {
-        let way = least_way(mem, table + size * i, places, near, count);
+        let way = row_way(mem, table + size * i, size, places, near, count);
         let v = row_word(mem, first, i, 2) % 65536;
         lower(dx, wide(v), way);
         i += 1;

@@ -4,7 +4,7 @@ use mathlib.Core.Path.{_≡_, refl}
 use Prim.Native.Nat.{ℕ, _-_, _≤_, _<_}
 use native.Mathlib.Omega.{arith}
 use Rattle.part_bounds.specs.Bounds.{Closer}
-use Rattle.part_bounds.proofs.Relaxing.{closer-none, closer-more, closer-all, table-row}
+use Rattle.part_bounds.proofs.Relaxing.{closer-none, closer-more, closer-all, table-row, row-asks}
 use borrow.Author.Needs.{needs}
 use Rattle.part_bounds.proofs.relax_rows.Statement.{statement}
 use Rattle.part_bounds.proofs.relax_rows.Tie as tie
@@ -18,14 +18,14 @@ abbrev μ-loop : tie.MeasureT-loop
 loop-holds : tie.Need-loop-holds Inv-loop μ-loop
 loop-holds c = (omega arith, closer-none)
 
-mul-least-way : tie.Need-mul-least-way Inv-loop μ-loop
-mul-least-way c = omega (arith, table-row (c .before .before .before .before .before .before .args .size) (c .before .loop .i) (c .before .before .before .before .before .before .pre .2) (c .loop-test .taken))
+mul-row-way : tie.Need-mul-row-way Inv-loop μ-loop
+mul-row-way c = omega (arith, table-row (c .before .before .before .before .before .before .args .size) (c .before .loop .i) (c .before .before .before .before .before .before .pre .2) (c .loop-test .taken))
 
-add-least-way : tie.Need-add-least-way Inv-loop μ-loop
-add-least-way c = omega (arith, table-row (c .before .before .before .before .before .before .args .size) (c .before .loop .i) (c .before .before .before .before .before .before .pre .2) (c .loop-test .taken))
+add-row-way : tie.Need-add-row-way Inv-loop μ-loop
+add-row-way c = omega (arith, table-row (c .before .before .before .before .before .before .args .size) (c .before .loop .i) (c .before .before .before .before .before .before .pre .2) (c .loop-test .taken))
 
-least-way-requires : tie.Need-least-way-requires Inv-loop μ-loop
-least-way-requires c κs = omega (arith, table-row (c .before .before .before .before .before .before .args .size) (c .before .loop .i) (c .before .before .before .before .before .before .pre .2) (c .loop-test .taken))
+row-way-requires : tie.Need-row-way-requires Inv-loop μ-loop
+row-way-requires c κs = row-asks _ _ (c .before .before .before .before .before .before .args .table) (c .before .before .before .before .before .before .args .size) (c .before .loop .i) (c .before .before .before .before .before .before .pre .1) (c .before .before .before .before .before .before .pre .2) (c .loop-test .taken) (c .before .before .before .before .before .before .pre .3)
 
 row-word-requires : tie.Need-row-word-requires Inv-loop μ-loop
 row-word-requires c κs = search needs
@@ -45,7 +45,7 @@ loop-less c = search needs
 loop-again : tie.Need-loop-again Inv-loop μ-loop
 loop-again c = (
   omega arith,
-  closer-more (c .before .before .before .before .before .before .before .before .before .before .before .before .before .pre .3) (c .before .before .before .before .before .before .before .loop-test .taken) (c .before .before .before .before .before .before .before .before .loop .inv .1) (c .before .before .before .before .before .before .least-way .ensures) (c .before .before .before .before .before .row-word .ensures) refl (c .before .before .before .wide .ensures) (c .before .before .lower .ensures),
+  closer-more (c .before .before .before .before .before .before .before .before .before .before .before .before .before .pre .3) (c .before .before .before .before .before .before .before .loop-test .taken) (c .before .before .before .before .before .before .before .before .loop .inv .1) (c .before .before .before .before .before .before .row-way .ensures) (c .before .before .before .before .before .row-word .ensures) refl (c .before .before .before .wide .ensures) (c .before .before .lower .ensures),
 )
 
 same-length : tie.Need-same-length Inv-loop μ-loop
@@ -61,9 +61,9 @@ relax-rows-spec =
     Inv-loop
     μ-loop
     loop-holds
-    mul-least-way
-    add-least-way
-    least-way-requires
+    mul-row-way
+    add-row-way
+    row-way-requires
     row-word-requires
     wide-requires
     lower-requires

@@ -1,0 +1,95 @@
+-- `least_in` is the least of the ways over the row's own words.
+-- Assumes nothing.
+use mathlib.Core.Path.{_≡_, refl, ap}
+use mathlib.Core.Logic.{inl, inr}
+use Prim.Native.Nat.{ℕ, _-_, _≤_, _<_}
+use native.Mathlib.Omega.{arith}
+use Rattle.words.specs.Lists.{word}
+use Rattle.far_sums.specs.Least.{Least}
+use Rattle.far_sums.proofs.Least.{least-none, least-lower-by, least-stays-by, least-all}
+use Rattle.part_bounds.specs.Bounds.{wayOver}
+use Rattle.part_bounds.proofs.Gathering.{over-next}
+use borrow.Author.Needs.{needs}
+use Rattle.part_bounds.proofs.least_in.Statement.{statement}
+use Rattle.part_bounds.proofs.least_in.Tie as tie
+
+abbrev Inv-loop : tie.InvT-loop
+Inv-loop row places near count least₀ t₀ least t = (t ≤ count) × Least (wayOver row places near) t least
+
+abbrev μ-loop : tie.MeasureT-loop
+μ-loop row places near count least₀ t₀ least t = count - t
+
+loop-holds : tie.Need-loop-holds Inv-loop μ-loop
+loop-holds c = (omega arith, least-none _)
+
+mul-j : tie.Need-mul-j Inv-loop μ-loop
+mul-j c = search needs
+
+shared-slice-read-j : tie.Need-shared-slice-read-j Inv-loop μ-loop
+shared-slice-read-j c = search needs
+
+cast-j : tie.Need-cast-j Inv-loop μ-loop
+cast-j c = omega (arith, c .shared-slice-known .given (c .before .before .loop .t))
+
+mul-way : tie.Need-mul-way Inv-loop μ-loop
+mul-way c = omega (arith, c .shared-slice-known .given (c .before .before .loop .t))
+
+shared-slice-read-way : tie.Need-shared-slice-read-way Inv-loop μ-loop
+shared-slice-read-way c = omega (arith, c .before .before .before .before .pre .2 (c .before .before .before .loop .t) (c .before .before .loop-test .taken))
+
+cast-way : tie.Need-cast-way Inv-loop μ-loop
+cast-way c = omega (arith, c .shared-slice-known2 .given (word (c .before .before .before .before .args .places .now) (c .before .before .before .loop .t)))
+
+mul-way-2 : tie.Need-mul-way-2 Inv-loop μ-loop
+mul-way-2 c = search needs
+
+shared-slice-read-way-2 : tie.Need-shared-slice-read-way-2 Inv-loop μ-loop
+shared-slice-read-way-2 c = search needs
+
+cast-way-2 : tie.Need-cast-way-2 Inv-loop μ-loop
+cast-way-2 c = omega (arith, c .shared-slice-known3 .given (c .before .before .before .before .loop .t))
+
+add-way : tie.Need-add-way Inv-loop μ-loop
+add-way c = omega (arith, c .before .shared-slice-known2 .given (word (c .before .before .before .before .before .args .places .now) (c .before .before .before .before .loop .t)), c .shared-slice-known3 .given (c .before .before .before .before .loop .t))
+
+add-t : tie.Need-add-t Inv-loop μ-loop
+add-t c = search needs
+
+loop-less : tie.Need-loop-less Inv-loop μ-loop
+loop-less c = search needs
+
+loop-again : tie.Need-loop-again Inv-loop μ-loop
+loop-again c =
+    elim (c .if1 .came) [
+      | inl t ↦ rw (t .1) (omega arith, least-lower-by _ (c .before .before .before .before .before .loop .inv .1) (over-next (c .before .before .before .before .before .before .args .row .now) (c .before .before .before .before .before .before .args .places .now) (c .before .before .before .before .before .before .args .near .now) (c .before .before .before .before .before .loop .t)) (t .0 .taken))
+      | inr t ↦ rw (t .1) (omega arith, least-stays-by _ (c .before .before .before .before .before .loop .inv .1) (over-next (c .before .before .before .before .before .before .args .row .now) (c .before .before .before .before .before .before .args .places .now) (c .before .before .before .before .before .before .args .near .now) (c .before .before .before .before .before .loop .t)) (t .0 .left))
+    ]
+
+cast-result : tie.Need-cast-result Inv-loop μ-loop
+cast-result c = omega (arith, c .before .loop .inv .1 .most)
+
+returns : tie.Need-returns Inv-loop μ-loop
+returns c = least-all _ (c .before .loop .inv .1) (omega arith)
+
+pub least-in-spec : {M : Type 1} → statement M
+least-in-spec =
+    tie.close
+    (tie.spec
+    Inv-loop
+    μ-loop
+    loop-holds
+    mul-j
+    shared-slice-read-j
+    cast-j
+    mul-way
+    shared-slice-read-way
+    cast-way
+    mul-way-2
+    shared-slice-read-way-2
+    cast-way-2
+    add-way
+    add-t
+    loop-less
+    loop-again
+    cast-result
+    returns)
