@@ -1,5 +1,9 @@
-# make test: the gate (what .ci/run calls).  make demo: see README.md.  make bench: the proved code against plain Rust, from nothing.
-.PHONY: test demo bench
+# make test: the gate (what .ci/run calls).         make demo: document 01's example, proved, built and run.
+# make bench: the proved code against plain Rust.   make fuzz N=30: comparisons with new seeds for 30 minutes.
+# make picture: docs/map.svg and docs/bench.svg.
+.PHONY: test demo bench fuzz picture
+
+N ?= 10
 
 test:
 	@tools/gate
@@ -12,3 +16,10 @@ bench:
 	rt staticlib hailtrellis_c
 	cd rust && cargo run --release --quiet -p bench -- all
 	cd rust && cargo run --release --quiet -p picture -- ../docs
+
+fuzz:
+	rt staticlib hailtrellis_c
+	$(MAKE) -C rust fuzz N=$(N)
+
+picture:
+	$(MAKE) -C rust picture
