@@ -20,10 +20,10 @@ use Rattle.parts.proofs.Rows.{rows-unique}
 use Rattle.rows.specs.Row.{rowOf}
 use Rattle.fleet.specs.State.{Slot, absent, State, active}
 use Rattle.image.specs.Places.{verticesAt, roadsAt, vansAt, tablesAt, rowsAt, tableOf, firstRowOf, distanceAt, rowAt}
-use Rattle.image.specs.Image.{headPart, partRecord, endsAt, vertexRecord, roadRecords, vanRecord, nextVan, vanRecords, tableRecord, rowRecord, partBelow, rowBelow, rowRecords, image}
+use Rattle.image.specs.Image.{headPart, partRecord, endsAt, vertexRecord, roadRecords, vanRecord, nextVan, vanRecords, tableRecord, rowRecord, partBelow, rowBelow, rowRecords, beforeTables, image}
 use Rattle.image.specs.Records.{rowVertex, roadRecord, vanWords}
 use Rattle.image.proofs.Length.{roads-length, vans-length, head-length, parts-length, vertices-length, tables-length, all-rows-length, image-length, van-length}
-use Rattle.image.proofs.Words.{distance-word, row-word}
+use Rattle.image.proofs.Words.{before-length, distance-word, row-word}
 
 -- word w of record x, where records of eight words stand for the numbers below n
 record-word : (f : ℕ → List ℕ) (sized : (x : ℕ) → length (f x) ≡ 8) (n x w : ℕ) → x < n → w < 8
@@ -118,11 +118,8 @@ module _ (m : Map) (s : State) (slots : length (s .vans) ≡ vans) where
   to-vans : List ℕ
   to-vans = to-roads ++ roadRecords 0 (m .roads)
 
-  to-tables : List ℕ
-  to-tables = to-vans ++ vanRecords m 0 (s .vans)
-
   to-rows : List ℕ
-  to-rows = to-tables ++ gather (tableRecord m) (upTo (partCount m))
+  to-rows = (beforeTables m s) ++ gather (tableRecord m) (upTo (partCount m))
 
   to-vertices-length : length to-vertices ≡ verticesAt m
   unfolding to-vertices
@@ -136,23 +133,19 @@ module _ (m : Map) (s : State) (slots : length (s .vans) ≡ vans) where
   unfolding to-vans
   to-vans-length = omega (arith, length-append to-roads (roadRecords 0 (m .roads)), to-roads-length, roads-length 0 (m .roads), vans-start m)
 
-  to-tables-length : length to-tables ≡ tablesAt m
-  unfolding to-tables
-  to-tables-length = omega (arith, length-append to-vans (vanRecords m 0 (s .vans)), to-vans-length, vans-length m 0 (s .vans), tables-start m)
-
   -- a word before the rows, before the tables, .. is read there
   from-rows : (i : ℕ) → i < length to-rows → word (image m s) i ≡ word to-rows i
-  unfolding image to-rows to-tables to-vans to-roads to-vertices
+  unfolding image to-rows beforeTables to-vans to-roads to-vertices
   from-rows i h = List·getD-append to-rows (gather (rowRecords m s) (upTo (partCount m))) 0 i h
 
-  from-tables : (i : ℕ) → i < tablesAt m → word (image m s) i ≡ word to-tables i
+  from-tables : (i : ℕ) → i < tablesAt m → word (image m s) i ≡ word (beforeTables m s) i
   unfolding to-rows
   from-tables i h =
       let tables : List ℕ = gather (tableRecord m) (upTo (partCount m)) in
-      from-rows i (omega (arith, length-append to-tables tables, to-tables-length)) ∙ List·getD-append to-tables tables 0 i (omega (arith, to-tables-length))
+      from-rows i (omega (arith, length-append (beforeTables m s) tables, before-length m s slots)) ∙ List·getD-append (beforeTables m s) tables 0 i (omega (arith, before-length m s slots))
 
   from-vans : (i : ℕ) → i < vansAt m → word (image m s) i ≡ word to-vans i
-  unfolding to-tables
+  unfolding beforeTables to-vans to-roads to-vertices
   from-vans i h = from-tables i (omega (arith, tables-start m)) ∙ List·getD-append to-vans (vanRecords m 0 (s .vans)) 0 i (omega (arith, to-vans-length))
 
   from-roads : (i : ℕ) → i < roadsAt m → word (image m s) i ≡ word to-roads i
@@ -212,10 +205,10 @@ module _ (m : Map) (s : State) (slots : length (s .vans) ≡ vans) where
       at e = omega arith
 
   pub van-word : (i w : ℕ) → i < vans → w < 8 → word (image m s) (vansAt m + 8 * i + w) ≡ word (vanWords m s i) w
-  unfolding to-tables vanWords
+  unfolding beforeTables vanWords to-vans to-roads to-vertices
   van-word i w hi hw =
       from-tables (vansAt m + 8 * i + w) (omega (arith, tables-start m))
-      ∙ ap (word to-tables) (at to-vans-length)
+      ∙ ap (word (beforeTables m s)) (at to-vans-length)
       ∙ getD-append-add to-vans (vanRecords m 0 (s .vans)) (8 * i + w) 0
       ∙ vans-word m 0 (s .vans) i w (omega (arith, slots)) hw
       ∙ ap (λ (n : ℕ). word (vanRecord (getD (s .vans) i absent) (nextVan m (getD (s .vans) i absent) (suc n) (drop (suc i) (s .vans)))) w) (zero-add i)

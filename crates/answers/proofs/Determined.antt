@@ -1,0 +1,56 @@
+-- Two answers of the code that are the same in the definitions are the same.
+-- Assumes nothing.
+use mathlib.Core.Path.{_≡_, refl, sym, ap, _∙_}
+use mathlib.Core.List.{List, [], _∷_}
+use lib.ListN.{getD}
+use Rattle.fleet.specs.Change.{Answer, refused, accepted}
+use Rattle.answers.specs.declared.Reply.{Reply}
+use Rattle.answers.specs.declared.Reply.the-variants.{Accepted, BadRecord, BadCounts, BadParts, BadRoads, TooSmall, Unopened, OutOfRange, NoVan, AlreadyPresent, NoRoad, OffsetAboveWeight, Held, NotHeldByDesk, StampDiffers, CountUsedUp}
+use Rattle.answers.specs.Answered.{answered}
+
+-- the refusals by their numbers; what stands at 0 is no refusal
+refusals : List Reply
+refusals =
+    Accepted 0
+    ∷ BadRecord
+    ∷ BadCounts
+    ∷ BadParts
+    ∷ BadRoads
+    ∷ TooSmall
+    ∷ Unopened
+    ∷ OutOfRange
+    ∷ NoVan
+    ∷ AlreadyPresent
+    ∷ NoRoad
+    ∷ OffsetAboveWeight
+    ∷ Held
+    ∷ NotHeldByDesk
+    ∷ StampDiffers
+    ∷ CountUsedUp
+    ∷ []
+
+back : Answer → Reply
+back (accepted value) = Accepted value
+back (refused n) = getD refusals n (Accepted 0)
+
+back-is : (a : Reply) → back (answered a) ≡ a
+unfolding back refusals
+back-is (Accepted value) = refl
+back-is BadRecord = refl
+back-is BadCounts = refl
+back-is BadParts = refl
+back-is BadRoads = refl
+back-is TooSmall = refl
+back-is Unopened = refl
+back-is OutOfRange = refl
+back-is NoVan = refl
+back-is AlreadyPresent = refl
+back-is NoRoad = refl
+back-is OffsetAboveWeight = refl
+back-is Held = refl
+back-is NotHeldByDesk = refl
+back-is StampDiffers = refl
+back-is CountUsedUp = refl
+
+pub answered-same : (a b : Reply) → answered a ≡ answered b → a ≡ b
+answered-same a b e = sym (back-is a) ∙ ap back e ∙ back-is b

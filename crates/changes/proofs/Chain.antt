@@ -1,0 +1,101 @@
+-- What a function's calls, one after the other, come to, over plain values.
+-- Assumes nothing.
+use mathlib.Core.Path.{_≡_, sym, _∙_, ap}
+use mathlib.Core.Bool.{true, false}
+use mathlib.Core.List.{List}
+use Prim.Native.Nat.{ℕ, _+_}
+use lib.ListN.{set}
+use borrow.Author.Tests.{eq-eqb, ne-eqb}
+use Rattle.words.specs.Limits.{lastCount}
+use Rattle.words.specs.Lists.{word}
+use Rattle.answers.specs.declared.Reply.the-variants.{Accepted, CountUsedUp}
+use Rattle.counts.specs.declared.Counts.{Counts}
+use Rattle.places.specs.Place.{vertexAt}
+use Rattle.fleet.specs.State.{absent}
+use Rattle.van_lists.specs.declared.VanWords.{VanWords}
+use Rattle.van_lists.specs.Slot.{wordsOf, stamped}
+use Rattle.van_lists.specs.Walk.{written, takenOut, putIn}
+use Rattle.road_lookup.specs.Lookup.{endIn}
+use Rattle.row_refresh.specs.Model.{switched}
+use Rattle.changes.specs.Made.{departed, arrived, moved, made, counted, settled}
+
+module _ (mem : List ℕ) (counts : Counts) (van vertex : ℕ) (words : VanWords) (at first : ℕ) (place : at ≡ vertexAt counts vertex) where
+  -- the first van of the list, where it was read
+  first-is : (list : List ℕ) → first ≡ word list (at + 4) → first ≡ word list (vertexAt counts vertex + 4)
+  first-is list e = e ∙ ap (λ (k : ℕ). word list (k + 4)) place
+
+  module _ (out : List ℕ) (taken : out ≡ takenOut mem counts van vertex words) (read : first ≡ word out (at + 4)) where
+    first-out : first ≡ word (takenOut mem counts van vertex words) (vertexAt counts vertex + 4)
+    first-out = first-is out read ∙ ap (λ (l : List ℕ). word l (vertexAt counts vertex + 4)) taken
+
+    pub departs-last : (end : List ℕ) → first ≡ 0 → end ≡ switched out vertex false → end ≡ departed mem counts van vertex words
+    unfolding departed
+    departs-last end none e = rw (eq-eqb (word (takenOut mem counts van vertex words) (vertexAt counts vertex + 4)) 0 (sym first-out ∙ none)) (e ∙ ap (λ (l : List ℕ). switched l vertex false) taken)
+
+    pub departs-one : (first ≡ 0 → ⊥) → out ≡ departed mem counts van vertex words
+    unfolding departed
+    departs-one some = rw (ne-eqb (word (takenOut mem counts van vertex words) (vertexAt counts vertex + 4)) 0 (λ z. some (first-out ∙ z))) taken
+
+  module _ (come : List ℕ) (put : come ≡ putIn mem counts van vertex words) (read : first ≡ word mem (at + 4)) where
+    pub arrives-first : (end : List ℕ) → first ≡ 0 → end ≡ switched come vertex true → end ≡ arrived mem counts van vertex words
+    unfolding arrived
+    arrives-first end none e = rw (eq-eqb (word mem (vertexAt counts vertex + 4)) 0 (sym (first-is mem read) ∙ none)) (e ∙ ap (λ (l : List ℕ). switched l vertex true) put)
+
+    pub arrives-too : (first ≡ 0 → ⊥) → come ≡ arrived mem counts van vertex words
+    unfolding arrived
+    arrives-too some = rw (ne-eqb (word mem (vertexAt counts vertex + 4)) 0 (λ z. some (first-is mem read ∙ z))) put
+
+module _ (mem : List ℕ) (counts : Counts) (van : ℕ) (old new : VanWords) (from to : ℕ) (f : from ≡ endIn mem counts (old .road)) (t : to ≡ endIn mem counts (new .road)) (end : List ℕ) where
+  pub makes-kept : old .state ≡ 1 → new .state ≡ 1 → from ≡ to → end ≡ written mem counts van new → end ≡ made mem counts van old new
+  unfolding made moved
+  makes-kept was is same e =
+      rw (eq-eqb (old .state) 1 was, eq-eqb (new .state) 1 is, eq-eqb (endIn mem counts (old .road)) (endIn mem counts (new .road)) (sym f ∙ same ∙ t)) e
+
+  pub makes-moved : (out : List ℕ) → old .state ≡ 1 → new .state ≡ 1 → (from ≡ to → ⊥) → out ≡ departed mem counts van from (wordsOf absent)
+      → end ≡ arrived out counts van to new → end ≡ made mem counts van old new
+  unfolding made moved
+  makes-moved out was is other o e =
+      rw (eq-eqb (old .state) 1 was, eq-eqb (new .state) 1 is, ne-eqb (endIn mem counts (old .road)) (endIn mem counts (new .road)) (λ same. other (f ∙ same ∙ sym t))) (e ∙ both)
+    where
+      out′ : out ≡ departed mem counts van (endIn mem counts (old .road)) (wordsOf absent)
+      out′ = o ∙ ap (λ (k : ℕ). departed mem counts van k (wordsOf absent)) f
+
+      both : arrived out counts van to new ≡ arrived (departed mem counts van (endIn mem counts (old .road)) (wordsOf absent)) counts van (endIn mem counts (new .road)) new
+      both i = arrived (out′ i) counts van (t i) new
+
+  pub makes-departed : old .state ≡ 1 → (new .state ≡ 1 → ⊥) → end ≡ departed mem counts van from new → end ≡ made mem counts van old new
+  unfolding made
+  makes-departed was is-not e = rw (eq-eqb (old .state) 1 was, ne-eqb (new .state) 1 is-not) (e ∙ ap (λ (k : ℕ). departed mem counts van k new) f)
+
+  pub makes-arrived : (old .state ≡ 1 → ⊥) → new .state ≡ 1 → end ≡ arrived mem counts van to new → end ≡ made mem counts van old new
+  unfolding made
+  makes-arrived was-not is e = rw (ne-eqb (old .state) 1 was-not, eq-eqb (new .state) 1 is) (e ∙ ap (λ (k : ℕ). arrived mem counts van k new) t)
+
+  pub makes-written : (old .state ≡ 1 → ⊥) → (new .state ≡ 1 → ⊥) → end ≡ written mem counts van new → end ≡ made mem counts van old new
+  unfolding made
+  makes-written was-not is-not e = rw (ne-eqb (old .state) 1 was-not, ne-eqb (new .state) 1 is-not) e
+
+module _ (mem : List ℕ) (counts : Counts) (van : ℕ) (old new : VanWords) (count : ℕ) (is : count ≡ word mem 5) where
+  pub last-answer : count ≡ lastCount → CountUsedUp ≡ counted (word mem 5)
+  last-answer last = rw (eq-eqb (word mem 5) lastCount (sym is ∙ last))
+
+  pub last-words : count ≡ lastCount → mem ≡ settled mem counts van old new
+  unfolding settled
+  last-words last = rw (eq-eqb (word mem 5) lastCount (sym is ∙ last))
+
+  pub next-answer : (count ≡ lastCount → ⊥) → Accepted (count + 1) ≡ counted (word mem 5)
+  next-answer more = rw (ne-eqb (word mem 5) lastCount (λ e. more (is ∙ e)), is)
+
+  pub next-words : (first end : List ℕ) (words : VanWords) → (count ≡ lastCount → ⊥) → first ≡ set mem 5 (count + 1) → words ≡ stamped new (count + 1)
+      → end ≡ made first counts van old words → end ≡ settled mem counts van old new
+  unfolding settled
+  next-words first end words more f w e = rw (ne-eqb (word mem 5) lastCount (λ z. more (is ∙ z))) (e ∙ both)
+    where
+      first′ : first ≡ set mem 5 (word mem 5 + 1)
+      first′ = f ∙ ap (λ (k : ℕ). set mem 5 (k + 1)) is
+
+      words′ : words ≡ stamped new (word mem 5 + 1)
+      words′ = w ∙ ap (λ (k : ℕ). stamped new (k + 1)) is
+
+      both : made first counts van old words ≡ made (set mem 5 (word mem 5 + 1)) counts van old (stamped new (word mem 5 + 1))
+      both i = made (first′ i) counts van old (words′ i)

@@ -1,0 +1,118 @@
+-- One van stands anew in the words of a map and a fleet: they are the words of the fleet in which it stands so, rows included.
+-- Assumes nothing.
+use mathlib.Core.Path.{_≡_, refl, sym, ap, _∙_}
+use mathlib.Core.Bool.{true, false, not}
+use mathlib.Core.List.{List}
+use Prim.Native.Nat.{ℕ, _+_, _<_}
+use native.Mathlib.Omega.{arith}
+use native.Mathlib.Decide.{ℕ-discrete}
+use lib.ListN.{length}
+use lib.Dec.{eqb}
+use borrow.Author.Tests.{eq-eqb, ne-eqb}
+use Rattle.words.specs.Limits.{vans}
+use Rattle.words.specs.Lists.{word}
+use Rattle.roads.specs.Map.{Map}
+use Rattle.maps.specs.Sound.{Sound}
+use Rattle.places.specs.Place.{vertexAt}
+use Rattle.fleet.specs.State.{Slot, State, slotOf, headsFor, active}
+use Rattle.image.specs.Image.{image}
+use Rattle.van_lists.specs.Slot.{wordsOf}
+use Rattle.van_lists.specs.Walk.{written, takenOut, putIn}
+use Rattle.van_lists.proofs.Found.{clash, Found, nothing, found}
+use Rattle.van_lists.proofs.Links.{withSlot, headsAt, linkFrom, link-found, active-first}
+use Rattle.van_lists.proofs.Parked.{Parked}
+use Rattle.van_lists.proofs.Relink.{slot-new, slots-kept, link-elsewhere}
+use Rattle.van_lists.proofs.OneVan.{one-head, parked-kept, kept-only, parked-out, out-only, parked-in, in-only}
+use Rattle.row_memory.specs.Old.{RowsOld}
+use Rattle.row_memory.proofs.Whole.{image-unswitched, image-switched}
+use Rattle.changes.specs.Made.{departed, arrived}
+use Rattle.changes.proofs.Reading.{countsOf, image-parked}
+use Rattle.changes.proofs.Between.{rows-old}
+
+-- a vertex for which a free van heads is active
+active-by : (m : Map) (s : State) → length (s .vans) ≡ vans → (v n : ℕ) → n < vans → headsAt m s v n ≡ true → active m s v ≡ true
+active-by m s slots v n is-van there = active-first m s v ∙ by (link-found m s slots v 0 (omega arith))
+  where
+    by : Found (headsAt m s v) 0 vans (linkFrom m s v 0) → not (eqb (linkFrom m s v 0) 0) ≡ true
+    by (nothing e none) = absurd (clash there (none n (omega arith) is-van))
+    by (found x e from to passes before) = ap not (ne-eqb (linkFrom m s v 0) 0 (omega arith))
+
+-- a vertex is active by the first word of its list
+by-first : (m : Map) (s : State) (v first : ℕ) → first ≡ linkFrom m s v 0 → (first ≡ 0 → ⊥) → active m s v ≡ true
+by-first m s v first e some = active-first m s v ∙ ap not (ne-eqb (linkFrom m s v 0) 0 (λ z. some (e ∙ z)))
+
+by-none : (m : Map) (s : State) (v first : ℕ) → first ≡ linkFrom m s v 0 → first ≡ 0 → active m s v ≡ false
+by-none m s v first e none = active-first m s v ∙ ap not (eq-eqb (linkFrom m s v 0) 0 (sym e ∙ none))
+
+module _ (m : Map) (sound : Sound m) (s : State) (slots : length (s .vans) ≡ vans) (n : ℕ) (is-van : n < vans) (new : Slot) where
+  anew : length (withSlot s n new .vans) ≡ vans
+  anew = slots-kept m s slots n is-van new
+
+  parked : Parked m (countsOf m) s (image m s)
+  parked = image-parked m s slots
+
+  -- where the van did not head and does not head
+  active-same : (v : ℕ) → headsFor m v new ≡ headsAt m s v n → active m s v ≡ active m (withSlot s n new) v
+  active-same v same =
+      active-first m s v ∙ ap (λ (k : ℕ). not (eqb k 0)) (sym (link-elsewhere m s slots n is-van new v 0 (omega arith) same)) ∙ sym (active-first m (withSlot s n new) v)
+
+  pub image-kept : ((v : ℕ) → headsFor m v new ≡ headsAt m s v n) → written (image m s) (countsOf m) n (wordsOf new) ≡ image m (withSlot s n new)
+  image-kept same =
+      image-unswitched m s (withSlot s n new) slots anew _
+      (rows-old m s (withSlot s n new) slots anew refl _ (parked-kept m (countsOf m) s slots (image m s) parked n is-van new same) (kept-only m (countsOf m) s slots (image m s) parked n is-van new))
+      (λ v vertex. active-same v (same v))
+
+  module _ (p : ℕ) (vertex : p < m .vertices) where
+    after-out : List ℕ
+    after-out = takenOut (image m s) (countsOf m) n p (wordsOf new)
+
+    pub image-departed : headsAt m s p n ≡ true → ((v : ℕ) → headsFor m v new ≡ false) → departed (image m s) (countsOf m) n p (wordsOf new) ≡ image m (withSlot s n new)
+    unfolding departed after-out
+    image-departed was nowhere =
+        elim (ℕ-discrete (word after-out (vertexAt (countsOf m) p + 4)) 0) [
+          | yes none ↦
+              rw (eq-eqb (word after-out (vertexAt (countsOf m) p + 4)) 0 none)
+              (image-switched m s (withSlot s n new) slots anew after-out half p vertex false (record { here = by-none m (withSlot s n new) p _ first none; elsewhere = λ u away. elsewhere u away }) sound)
+          | no some ↦
+              rw (ne-eqb (word after-out (vertexAt (countsOf m) p + 4)) 0 some)
+              (image-unswitched m s (withSlot s n new) slots anew after-out half
+              (λ v is-vertex.
+              elim (ℕ-discrete v p) [
+                | yes here ↦ rw here (active-by m s slots p n is-van was ∙ sym (by-first m (withSlot s n new) p _ first some))
+                | no away ↦ elsewhere v away
+              ]))
+        ]
+      where
+        out : Parked m (countsOf m) (withSlot s n new) (takenOut (image m s) (countsOf m) n p (wordsOf new))
+        out = parked-out m (countsOf m) s slots (image m s) parked n is-van new p vertex was nowhere
+
+        half : RowsOld m s (withSlot s n new) (takenOut (image m s) (countsOf m) n p (wordsOf new))
+        half = rows-old m s (withSlot s n new) slots anew refl _ out (out-only m (countsOf m) s slots (image m s) parked n is-van new p vertex)
+
+        first : word (takenOut (image m s) (countsOf m) n p (wordsOf new)) (vertexAt (countsOf m) p + 4) ≡ linkFrom m (withSlot s n new) p 0
+        first = out .first p vertex
+
+        elsewhere : (u : ℕ) → (u ≡ p → ⊥) → active m s u ≡ active m (withSlot s n new) u
+        elsewhere u away = active-same u (nowhere u ∙ sym (one-head m u p (slotOf s n) was away))
+
+    pub image-arrived : ((v : ℕ) → headsAt m s v n ≡ false) → headsFor m p new ≡ true → arrived (image m s) (countsOf m) n p (wordsOf new) ≡ image m (withSlot s n new)
+    unfolding arrived
+    image-arrived was there =
+        elim (ℕ-discrete (word (image m s) (vertexAt (countsOf m) p + 4)) 0) [
+          | yes none ↦ rw (eq-eqb (word (image m s) (vertexAt (countsOf m) p + 4)) 0 none) (image-switched m s (withSlot s n new) slots anew _ half p vertex true (record { here = now; elsewhere = λ u away. elsewhere u away }) sound)
+          | no some ↦
+              rw (ne-eqb (word (image m s) (vertexAt (countsOf m) p + 4)) 0 some)
+              (image-unswitched m s (withSlot s n new) slots anew _ half
+              (λ v is-vertex. elim (ℕ-discrete v p) [ yes here ↦ rw here (by-first m s p _ (parked .first p vertex) some ∙ sym now) | no away ↦ elsewhere v away ]))
+        ]
+      where
+        half : RowsOld m s (withSlot s n new) (putIn (image m s) (countsOf m) n p (wordsOf new))
+        half =
+            rows-old m s (withSlot s n new) slots anew refl _ (parked-in m (countsOf m) s slots (image m s) parked n is-van new p vertex was there)
+            (in-only m (countsOf m) s slots (image m s) parked n is-van new p vertex)
+
+        now : active m (withSlot s n new) p ≡ true
+        now = active-by m (withSlot s n new) anew p n is-van (ap (headsFor m p) (slot-new m s slots n is-van new) ∙ there)
+
+        elsewhere : (u : ℕ) → (u ≡ p → ⊥) → active m s u ≡ active m (withSlot s n new) u
+        elsewhere u away = active-same u (one-head m u p new there away ∙ sym (was u))

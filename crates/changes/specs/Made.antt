@@ -1,0 +1,54 @@
+-- What the functions of this crate do to any list of words, of a fleet or not.
+use Prim.Native.Nat.{ℕ, _+_}
+use mathlib.Core.Bool.{Bool, true, false, cond}
+use mathlib.Core.List.{List}
+use lib.ListN.{set}
+use lib.Dec.{eqb}
+use Rattle.words.specs.Limits.{lastCount}
+use Rattle.words.specs.Lists.{word}
+use Rattle.answers.specs.declared.Reply.{Reply}
+use Rattle.answers.specs.declared.Reply.the-variants.{Accepted, CountUsedUp}
+use Rattle.counts.specs.declared.Counts.{Counts}
+use Rattle.places.specs.Place.{vertexAt}
+use Rattle.fleet.specs.State.{absent}
+use Rattle.van_lists.specs.declared.VanWords.{VanWords}
+use Rattle.van_lists.specs.Slot.{wordsOf, stamped}
+use Rattle.van_lists.specs.Walk.{written, takenOut, putIn}
+use Rattle.road_lookup.specs.Lookup.{endIn}
+use Rattle.row_refresh.specs.Model.{switched}
+
+-- the vertex's list has no first van
+abbrev pub nobody : List ℕ → Counts → ℕ → Bool
+nobody mem counts vertex = eqb (word mem (vertexAt counts vertex + 4)) 0
+
+-- a van out of the list of a vertex, and the rows refreshed where the list is then empty
+unfoldable pub departed : List ℕ → Counts → ℕ → ℕ → VanWords → List ℕ
+departed mem counts van vertex words =
+    let after = takenOut mem counts van vertex words in
+    cond (nobody after counts vertex) (switched after vertex false) after
+
+-- a van into the list of a vertex, and the rows refreshed where the list was empty
+unfoldable pub arrived : List ℕ → Counts → ℕ → ℕ → VanWords → List ℕ
+arrived mem counts van vertex words =
+    let after = putIn mem counts van vertex words in
+    cond (nobody mem counts vertex) (switched after vertex true) after
+
+-- a van that stood as `old` says and stands as `new` says, by the ends of its roads
+unfoldable pub moved : List ℕ → Counts → ℕ → (from to : ℕ) → VanWords → List ℕ
+moved mem counts van from to new =
+    cond (eqb from to) (written mem counts van new) (arrived (departed mem counts van from (wordsOf absent)) counts van to new)
+
+unfoldable pub made : List ℕ → Counts → ℕ → (old new : VanWords) → List ℕ
+made mem counts van old new =
+    let from = endIn mem counts (old .road) in
+    let to = endIn mem counts (new .road) in
+    cond (eqb (old .state) 1)
+    (cond (eqb (new .state) 1) (moved mem counts van from to new) (departed mem counts van from new))
+    (cond (eqb (new .state) 1) (arrived mem counts van to new) (written mem counts van new))
+
+-- the answer to a change that nothing but the change count can refuse, and what it leaves
+abbrev pub counted : ℕ → Reply
+counted count = cond (eqb count lastCount) CountUsedUp (Accepted (count + 1))
+
+unfoldable pub settled : List ℕ → Counts → ℕ → (old new : VanWords) → List ℕ
+settled mem counts van old new = cond (eqb (word mem 5) lastCount) mem (made (set mem 5 (word mem 5 + 1)) counts van old (stamped new (word mem 5 + 1)))

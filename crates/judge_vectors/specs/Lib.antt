@@ -1,0 +1,2 @@
+-- The packs of maps.
+pub mod Pack

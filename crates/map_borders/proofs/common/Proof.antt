@@ -1,0 +1,60 @@
+-- `common` is `meet` in 1,024 steps.
+-- Assumes nothing.
+use mathlib.Core.Path.{_≡_, refl, sym, _∙_}
+use native.Mathlib.Omega.{arith}
+use borrow.Author.Needs.{needs}
+use Rattle.map_borders.specs.Lift.{meet}
+use Rattle.map_borders.proofs.Meet.{meet-none, meet-here, meet-above}
+use Rattle.map_borders.proofs.common.Statement.{statement}
+use Rattle.map_borders.proofs.common.Tie as tie
+
+abbrev Inv-loop : tie.InvT-loop
+Inv-loop parents a b x₀ y₀ left₀ x y left = meet parents 1024 a b ≡ meet parents left x y
+
+abbrev μ-loop : tie.MeasureT-loop
+μ-loop parents a b x₀ y₀ left₀ x y left = left
+
+loop-holds : tie.Need-loop-holds Inv-loop μ-loop
+loop-holds c = refl
+
+returns : tie.Need-returns Inv-loop μ-loop
+returns c = sym (c .before .before .loop .inv ∙ meet-here _ _ _ _ (c .before .loop-test .taken) (c .if1 .taken))
+
+lesser-requires : tie.Need-lesser-requires Inv-loop μ-loop
+lesser-requires c κs = search needs
+
+greater-requires : tie.Need-greater-requires Inv-loop μ-loop
+greater-requires c κs = search needs
+
+entry-requires : tie.Need-entry-requires Inv-loop μ-loop
+entry-requires c κs = search needs
+
+sub-left : tie.Need-sub-left Inv-loop μ-loop
+sub-left c = omega arith
+
+loop-less : tie.Need-loop-less Inv-loop μ-loop
+loop-less c = omega arith
+
+loop-again : tie.Need-loop-again Inv-loop μ-loop
+loop-again c =
+    c .before .before .before .before .before .loop .inv
+    ∙ meet-above _ _ _ _ (c .before .before .before .before .loop-test .taken) (c .before .before .before .if1 .left) (c .before .before .lesser .ensures) (c .before .greater .ensures) (c .entry .ensures)
+
+returns-2 : tie.Need-returns-2 Inv-loop μ-loop
+returns-2 c = sym (c .before .loop .inv ∙ meet-none _ _ _ _ (c .loop-test .left))
+
+pub common-spec : {M : Type 1} → statement M
+common-spec =
+    tie.close
+    (tie.spec
+    Inv-loop
+    μ-loop
+    loop-holds
+    returns
+    lesser-requires
+    greater-requires
+    entry-requires
+    sub-left
+    loop-less
+    loop-again
+    returns-2)

@@ -1,0 +1,61 @@
+-- `sizes_fit` tests each part.
+-- Assumes nothing.
+use Prim.Native.Nat.{_-_}
+use native.Mathlib.Omega.{arith}
+use borrow.Author.Needs.{needs}
+use borrow.Author.Tests.{le-leb, lt-leb}
+use Rattle.map_bytes.proofs.Each.{Left, left-start, left-passed, left-failed, left-done}
+use Rattle.map_borders.specs.Mark.{fewAt}
+use Rattle.map_borders.proofs.sizes_fit.Statement.{statement}
+use Rattle.map_borders.proofs.sizes_fit.Tie as tie
+
+abbrev Inv-loop : tie.InvT-loop
+Inv-loop sizes parts p₀ p = Left (fewAt sizes) parts p
+
+abbrev μ-loop : tie.MeasureT-loop
+μ-loop sizes parts p₀ p = parts - p
+
+loop-holds : tie.Need-loop-holds Inv-loop μ-loop
+loop-holds c = left-start
+
+cast-if1 : tie.Need-cast-if1 Inv-loop μ-loop
+cast-if1 c = search needs
+
+mul-if1 : tie.Need-mul-if1 Inv-loop μ-loop
+mul-if1 c = search needs
+
+element-copy-out-if1 : tie.Need-element-copy-out-if1 Inv-loop μ-loop
+element-copy-out-if1 c = omega arith
+
+returns : tie.Need-returns Inv-loop μ-loop
+unfolding fewAt
+returns c = left-failed _ (c .before .before .before .loop .inv) (c .before .before .loop-test .taken) (lt-leb _ _ (c .if1 .taken))
+
+add-p : tie.Need-add-p Inv-loop μ-loop
+add-p c = omega arith
+
+loop-less : tie.Need-loop-less Inv-loop μ-loop
+loop-less c = omega arith
+
+loop-again : tie.Need-loop-again Inv-loop μ-loop
+unfolding fewAt
+loop-again c = left-passed _ (c .before .before .before .loop .inv) (c .before .before .loop-test .taken) (le-leb _ _ (c .if1 .left))
+
+returns-2 : tie.Need-returns-2 Inv-loop μ-loop
+returns-2 c = left-done _ (c .before .loop .inv) (c .loop-test .left)
+
+pub sizes-fit-spec : {M : Type 1} → statement M
+sizes-fit-spec =
+    tie.close
+    (tie.spec
+    Inv-loop
+    μ-loop
+    loop-holds
+    cast-if1
+    mul-if1
+    element-copy-out-if1
+    returns
+    add-p
+    loop-less
+    loop-again
+    returns-2)

@@ -1,0 +1,46 @@
+-- `judge_shown` gives what the rules give the map that the bytes show.
+-- Assumes nothing.
+use mathlib.Core.Path.{refl, ap, _∙_}
+use mathlib.Core.List.{List}
+use Prim.Native.Nat.{ℕ}
+use lib.ListN.{drop}
+use borrow.Author.Needs.{needs}
+use Rattle.map_judge.specs.Asked.{asked}
+use Rattle.map_judge.proofs.Shown.{roads-by}
+use Rattle.map_judge.proofs.judge_shown.Statement.{statement}
+use Rattle.map_judge.proofs.judge_shown.Tie as tie
+
+show-parts-requires : tie.Need-show-parts-requires
+show-parts-requires c κs = (c .before .before .before .pre, refl, refl)
+
+slice-aggregate-judge-rules : tie.Need-slice-aggregate-judge-rules
+slice-aggregate-judge-rules c = search needs
+
+slice-aggregate-judge-rules-2 : tie.Need-slice-aggregate-judge-rules-2
+slice-aggregate-judge-rules-2 c = search needs
+
+roads-at-requires : tie.Need-roads-at-requires
+roads-at-requires c κs = search needs
+
+rest-requires : tie.Need-rest-requires
+rest-requires c κs = search needs
+
+judge-rules-requires : tie.Need-judge-rules-requires
+judge-rules-requires c κs = c .before .before .before .before .before .before .before .before .pre
+
+returns : tie.Need-returns
+returns c = let a = c .before .before .before .before .before .before .before .before .before .args in
+    c .judge-rules .ensures _ (c .before .before .before .before .before .show-parts .ensures .2)
+    (roads-by (a .map .now) (asked (a .counts .vertices) (a .counts .roads) (a .counts .parts)) (c .before .rest .ensures ∙ ap (λ (at : ℕ). drop at (a .map .now)) (c .before .before .roads-at .ensures)))
+
+pub judge-shown-spec : {M : Type 1} → statement M
+judge-shown-spec =
+    tie.close
+    (tie.spec
+    show-parts-requires
+    slice-aggregate-judge-rules
+    slice-aggregate-judge-rules-2
+    roads-at-requires
+    rest-requires
+    judge-rules-requires
+    returns)

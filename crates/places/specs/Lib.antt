@@ -1,0 +1,2 @@
+-- Where records stand, by the counts in the head.
+pub mod Place

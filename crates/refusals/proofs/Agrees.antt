@@ -1,0 +1,199 @@
+-- The verdict on a change of a van that stands as its slot says, in a memory that has the roads of the map, is what the definitions say of it.
+-- Assumes nothing.
+use mathlib.Core.Path.{_≡_, refl, sym, ap, subst⁻¹, _∙_}
+use mathlib.Core.Bool.{true, false}
+use mathlib.Core.List.{List}
+use Prim.Native.Nat.{ℕ, suc, _+_, _<_}
+use native.Mathlib.Omega.{arith}
+use native.Mathlib.Numerals.{add-one}
+use native.Mathlib.Decide.{decLt, ℕ-discrete}
+use borrow.Author.Tests.{le-leb, lt-leb, lt-ltb, le-ltb, eq-eqb, ne-eqb}
+use Rattle.words.specs.Tests.{_unless_then_}
+use Rattle.roads.specs.Map.{Map, roadAt, roadCount, roadBetween}
+use Rattle.maps.specs.Sound.{Sound}
+use Rattle.answers.specs.Answered.{answered}
+use Rattle.answers.specs.declared.Reply.the-variants.{NoVan, AlreadyPresent, NoRoad, OffsetAboveWeight, Held, NotHeldByDesk, StampDiffers}
+use Rattle.counts.specs.declared.Counts.{Counts}
+use Rattle.fleet.specs.State.{Van, Slot, absent, present, State, slotOf, isPresent, isFree, isHeldBy, hasStamp}
+use Rattle.fleet.specs.declared.Change.{Change}
+use Rattle.fleet.specs.declared.Change.the-variants.{Add, Move, Remove, Claim, Release}
+use Rattle.fleet.specs.Change.{refused, inRange, isRoad, offsetFits, countLeft, refusalOf, vanOf, slotAfter}
+use Rattle.van_lists.specs.declared.VanWords.{VanWords}
+use Rattle.van_lists.specs.Slot.{wordsOf, stamped}
+use Rattle.road_lookup.specs.Lookup.{RoadsStand}
+use Rattle.refusals.specs.declared.Verdict.{Verdict}
+use Rattle.refusals.specs.declared.Verdict.the-variants.{Refuse, Stand}
+use Rattle.refusals.specs.Verdict.{weightIn, placing, adding, moving, removing, claiming, releasing, OnRoad, Judged}
+use Rattle.refusals.proofs.Ways.{placing-none, placing-far, placing-there, adding-present, adding-place, moving-none, moving-place, removing-none, removing-held, removing-free, claiming-none, claiming-held, claiming-differs, claiming-free, releasing-none, releasing-other, releasing-held}
+
+-- a refusal is the definitions' refusal; a van that is to stand is refused by the change count alone, and stands as the definitions say
+abbrev pub Agrees : Map → State → Change → Verdict → Type 0
+Agrees m s c (Refuse r) = (k : ℕ) × (refusalOf m s c ≡ suc k) × (answered r ≡ refused (suc k))
+Agrees m s c (Stand w) = (refusalOf m s c ≡ (15 unless countLeft s then 0)) × ((stamp : ℕ) → stamped w stamp ≡ wordsOf (slotAfter m c stamp (slotOf s (vanOf c))))
+
+-- a van that is there keeps its words but for the stamp
+stamped-suc : (h road offset old stamp : ℕ) → _≡_ {A = VanWords} (stamped (record { state = suc h; road = road; offset = offset; stamp = old }) stamp) (record { state = suc h; road = road; offset = offset; stamp = stamp })
+stamped-suc h road offset old stamp = rw (ne-eqb (suc h) 0 (omega arith))
+
+module _ (m : Map) (s : State) (c : Change) where
+  agrees-by : (verdict is : Verdict) → verdict ≡ is → Agrees m s c is → Agrees m s c verdict
+  agrees-by verdict is e a = subst⁻¹ (Agrees m s c) e a
+
+  -- on a road: what is left to refuse is the road, the offset and the count
+  placing-agrees : (state u v offset roads road weight : ℕ) → road ≡ roadBetween (m .roads) u v → roads ≡ roadCount m → (road < roads → weight ≡ roadAt m road .weight)
+      → refusalOf m s c ≡ (10 unless isRoad m u v then 11 unless offsetFits m u v offset then 15 unless countLeft s then 0)
+      → ((stamp : ℕ) → stamped (record { state = state; road = road; offset = offset; stamp = 0 }) stamp ≡ wordsOf (slotAfter m c stamp (slotOf s (vanOf c))))
+      → Agrees m s c (placing state roads road weight offset)
+  placing-agrees state u v offset roads road weight found all weighs refusal stands =
+      elim (decLt road roads) [ yes there ↦ on-road there | no none ↦ off-road none ]
+    where
+      off-road : ¬ (road < roads) → Agrees m s c (placing state roads road weight offset)
+      off-road none =
+          let no-road : isRoad m u v ≡ false = le-ltb _ (roadCount m) (omega (arith, found, all)) in
+          agrees-by _ (Refuse NoRoad) (sym (placing-none state roads road weight offset (omega arith))) (9, refusal ∙ simp no-road, refl)
+
+      on-road : road < roads → Agrees m s c (placing state roads road weight offset)
+      on-road there = elim (decLt weight offset) [ yes far ↦ too-far far | no near ↦ in-place near ]
+        where
+          is-road : isRoad m u v ≡ true
+          is-road = lt-ltb _ (roadCount m) (omega (arith, found, all))
+
+          weight-is : weight ≡ roadAt m (roadBetween (m .roads) u v) .weight
+          weight-is = weighs there ∙ ap (λ (k : ℕ). roadAt m k .weight) found
+
+          too-far : weight < offset → Agrees m s c (placing state roads road weight offset)
+          too-far far =
+              let above : offsetFits m u v offset ≡ false = lt-leb offset _ (omega (arith, weight-is)) in
+              agrees-by _ (Refuse OffsetAboveWeight) (sym (placing-far state roads road weight offset there far)) (10, refusal ∙ simp (is-road, above), refl)
+
+          in-place : ¬ (weight < offset) → Agrees m s c (placing state roads road weight offset)
+          in-place near =
+              let fits : offsetFits m u v offset ≡ true = le-leb offset _ (omega (arith, weight-is)) in
+              agrees-by _ (Stand (record { state = state; road = road; offset = offset; stamp = 0 })) (sym (placing-there state roads road weight offset there (omega arith)))
+              (refusal ∙ simp (is-road, fits), stands)
+
+-- the words of a van that is there
+there-not-zero : (v : Van) → wordsOf (present v) .state ≡ 0 → ⊥
+there-not-zero v e = omega arith
+
+module _ (m : Map) (s : State) (mem : List ℕ) (counts : Counts) (sound : Sound m) (stand : RoadsStand m counts mem)
+    (weights : (i : ℕ) → i < roadCount m → weightIn mem counts i ≡ roadAt m i .weight) where
+  -- what is known of a road that is found
+  weight-there : (road : ℕ) → road < counts .roads → weightIn mem counts road ≡ roadAt m road .weight
+  weight-there road h = weights road (omega (arith, stand .roads))
+
+  add-agrees : (van u v offset : ℕ) (slot : Slot) → slotOf s van ≡ slot → inRange (Add van u v offset) ≡ true → (verdict : Verdict)
+      → OnRoad mem counts u v (λ road weight. adding (wordsOf slot) (counts .roads) road weight offset) verdict → Agrees m s (Add van u v offset) verdict
+  unfolding refusalOf slotAfter
+  add-agrees van u v offset (present w) is ok verdict j =
+      let there : isPresent (slotOf s van) ≡ true = ap isPresent is in
+      agrees-by m s (Add van u v offset) verdict (Refuse AlreadyPresent)
+      (j .is ∙ sym (adding-present (wordsOf (present w)) (counts .roads) (j .road) (weightIn mem counts (j .road)) offset (there-not-zero w)))
+      (8, simp (ok, there), refl)
+  add-agrees van u v offset absent is ok verdict j =
+      let none : isPresent (slotOf s van) ≡ false = ap isPresent is in
+      let found : j .road ≡ roadBetween (m .roads) u v = j .found m sound stand in
+      agrees-by m s (Add van u v offset) verdict (placing 1 (counts .roads) (j .road) (weightIn mem counts (j .road)) offset)
+      (j .is ∙ sym (adding-place (wordsOf absent) (counts .roads) (j .road) (weightIn mem counts (j .road)) offset _ refl refl))
+      (placing-agrees m s (Add van u v offset) 1 u v offset (counts .roads) (j .road) (weightIn mem counts (j .road)) found (stand .roads) (weight-there (j .road))
+      (simp (ok, none)) (λ stamp. rw (is, found) (stamped-suc 0 (roadBetween (m .roads) u v) offset 0 stamp)))
+
+  move-agrees : (van u v offset : ℕ) (slot : Slot) → slotOf s van ≡ slot → inRange (Move van u v offset) ≡ true → (verdict : Verdict)
+      → OnRoad mem counts u v (λ road weight. moving (wordsOf slot) (counts .roads) road weight offset) verdict → Agrees m s (Move van u v offset) verdict
+  unfolding refusalOf slotAfter
+  move-agrees van u v offset absent is ok verdict j =
+      let none : isPresent (slotOf s van) ≡ false = ap isPresent is in
+      agrees-by m s (Move van u v offset) verdict (Refuse NoVan)
+      (j .is ∙ sym (moving-none (wordsOf absent) (counts .roads) (j .road) (weightIn mem counts (j .road)) offset refl))
+      (7, simp (ok, none), refl)
+  move-agrees van u v offset (present w) is ok verdict j =
+      let there : isPresent (slotOf s van) ≡ true = ap isPresent is in
+      let found : j .road ≡ roadBetween (m .roads) u v = j .found m sound stand in
+      agrees-by m s (Move van u v offset) verdict (placing (suc (w .holder)) (counts .roads) (j .road) (weightIn mem counts (j .road)) offset)
+      (j .is ∙ sym (moving-place (wordsOf (present w)) (counts .roads) (j .road) (weightIn mem counts (j .road)) offset _ (there-not-zero w) refl))
+      (placing-agrees m s (Move van u v offset) (suc (w .holder)) u v offset (counts .roads) (j .road) (weightIn mem counts (j .road)) found (stand .roads) (weight-there (j .road))
+      (simp (ok, there)) (λ stamp. rw (is, found) (stamped-suc (w .holder) (roadBetween (m .roads) u v) offset 0 stamp)))
+
+module _ (m : Map) (s : State) where
+  remove-agrees : (van : ℕ) (slot : Slot) → slotOf s van ≡ slot → inRange (Remove van) ≡ true → Agrees m s (Remove van) (removing (wordsOf slot))
+  unfolding refusalOf slotAfter
+  remove-agrees van absent is ok =
+      let none : isPresent (slotOf s van) ≡ false = ap isPresent is in
+      agrees-by m s (Remove van) _ (Refuse NoVan) (sym (removing-none (wordsOf absent) refl)) (7, simp (ok, none), refl)
+  remove-agrees van (present w) is ok = elim (ℕ-discrete (w .holder) 0) [ yes free ↦ goes free | no held ↦ stays held ]
+    where
+      there : isPresent (slotOf s van) ≡ true
+      there = ap isPresent is
+
+      goes : w .holder ≡ 0 → Agrees m s (Remove van) (removing (wordsOf (present w)))
+      goes free =
+          let is-free : isFree (slotOf s van) ≡ true = ap isFree is ∙ eq-eqb (w .holder) 0 free in
+          agrees-by m s (Remove van) _ (Stand (wordsOf absent)) (sym (removing-free (wordsOf (present w)) (there-not-zero w) (omega arith))) (simp (ok, there, is-free), λ stamp. refl)
+
+      stays : (w .holder ≡ 0 → ⊥) → Agrees m s (Remove van) (removing (wordsOf (present w)))
+      stays held =
+          let not-free : isFree (slotOf s van) ≡ false = ap isFree is ∙ ne-eqb (w .holder) 0 held in
+          agrees-by m s (Remove van) _ (Refuse Held) (sym (removing-held (wordsOf (present w)) (there-not-zero w) (omega arith))) (11, simp (ok, there, not-free), refl)
+
+  claim-agrees : (van stamp desk : ℕ) (slot : Slot) → slotOf s van ≡ slot → inRange (Claim van stamp desk) ≡ true → Agrees m s (Claim van stamp desk) (claiming (wordsOf slot) stamp desk)
+  unfolding refusalOf slotAfter
+  claim-agrees van stamp desk absent is ok =
+      let none : isPresent (slotOf s van) ≡ false = ap isPresent is in
+      agrees-by m s (Claim van stamp desk) _ (Refuse NoVan) (sym (claiming-none (wordsOf absent) stamp desk refl)) (7, simp (ok, none), refl)
+  claim-agrees van stamp desk (present w) is ok = elim (ℕ-discrete (w .holder) 0) [ yes free ↦ elim (ℕ-discrete (w .stamp) stamp) [ yes same ↦ taken free same | no other ↦ late free other ] | no held ↦ stays held ]
+    where
+      there : isPresent (slotOf s van) ≡ true
+      there = ap isPresent is
+
+      free-test : w .holder ≡ 0 → isFree (slotOf s van) ≡ true
+      free-test free = ap isFree is ∙ eq-eqb (w .holder) 0 free
+
+      taken : w .holder ≡ 0 → w .stamp ≡ stamp → Agrees m s (Claim van stamp desk) (claiming (wordsOf (present w)) stamp desk)
+      taken free same =
+          let has : hasStamp stamp (slotOf s van) ≡ true = ap (hasStamp stamp) is ∙ eq-eqb (w .stamp) stamp same in
+          agrees-by m s (Claim van stamp desk) _ (Stand (record { state = desk + 1; road = w .road; offset = w .offset; stamp = 0 }))
+          (sym (claiming-free (wordsOf (present w)) stamp desk (there-not-zero w) (omega arith) same))
+          (simp (ok, there, free-test free, has), λ new. rw (is, add-one desk) (stamped-suc desk (w .road) (w .offset) 0 new))
+
+      late : w .holder ≡ 0 → (w .stamp ≡ stamp → ⊥) → Agrees m s (Claim van stamp desk) (claiming (wordsOf (present w)) stamp desk)
+      late free other =
+          let has-not : hasStamp stamp (slotOf s van) ≡ false = ap (hasStamp stamp) is ∙ ne-eqb (w .stamp) stamp other in
+          agrees-by m s (Claim van stamp desk) _ (Refuse StampDiffers) (sym (claiming-differs (wordsOf (present w)) stamp desk (there-not-zero w) (omega arith) other))
+          (13, simp (ok, there, free-test free, has-not), refl)
+
+      stays : (w .holder ≡ 0 → ⊥) → Agrees m s (Claim van stamp desk) (claiming (wordsOf (present w)) stamp desk)
+      stays held =
+          let not-free : isFree (slotOf s van) ≡ false = ap isFree is ∙ ne-eqb (w .holder) 0 held in
+          agrees-by m s (Claim van stamp desk) _ (Refuse Held) (sym (claiming-held (wordsOf (present w)) stamp desk (there-not-zero w) (omega arith))) (11, simp (ok, there, not-free), refl)
+
+  release-agrees : (van desk : ℕ) (slot : Slot) → slotOf s van ≡ slot → inRange (Release van desk) ≡ true → Agrees m s (Release van desk) (releasing (wordsOf slot) desk)
+  unfolding refusalOf slotAfter
+  release-agrees van desk absent is ok =
+      let none : isPresent (slotOf s van) ≡ false = ap isPresent is in
+      agrees-by m s (Release van desk) _ (Refuse NoVan) (sym (releasing-none (wordsOf absent) desk refl)) (7, simp (ok, none), refl)
+  release-agrees van desk (present w) is ok = elim (ℕ-discrete (w .holder) desk) [ yes same ↦ freed same | no other ↦ stays other ]
+    where
+      there : isPresent (slotOf s van) ≡ true
+      there = ap isPresent is
+
+      freed : w .holder ≡ desk → Agrees m s (Release van desk) (releasing (wordsOf (present w)) desk)
+      freed same =
+          let holds : isHeldBy desk (slotOf s van) ≡ true = ap (isHeldBy desk) is ∙ eq-eqb (w .holder) desk same in
+          agrees-by m s (Release van desk) _ (Stand (record { state = 1; road = w .road; offset = w .offset; stamp = 0 }))
+          (sym (releasing-held (wordsOf (present w)) desk (there-not-zero w) (omega arith)))
+          (simp (ok, there, holds), λ new. rw is (stamped-suc 0 (w .road) (w .offset) 0 new))
+
+      stays : (w .holder ≡ desk → ⊥) → Agrees m s (Release van desk) (releasing (wordsOf (present w)) desk)
+      stays other =
+          let holds-not : isHeldBy desk (slotOf s van) ≡ false = ap (isHeldBy desk) is ∙ ne-eqb (w .holder) desk other in
+          agrees-by m s (Release van desk) _ (Refuse NotHeldByDesk) (sym (releasing-other (wordsOf (present w)) desk (there-not-zero w) (omega arith))) (12, simp (ok, there, holds-not), refl)
+
+-- every kind of change
+pub agrees : (m : Map) (s : State) (mem : List ℕ) (counts : Counts) → Sound m → RoadsStand m counts mem
+    → ((i : ℕ) → i < roadCount m → weightIn mem counts i ≡ roadAt m i .weight)
+    → (c : Change) → inRange c ≡ true → (verdict : Verdict) → Judged mem counts (wordsOf (slotOf s (vanOf c))) c verdict → Agrees m s c verdict
+agrees m s mem counts sound stand weights (Add van u v offset) ok verdict j = add-agrees m s mem counts sound stand weights van u v offset (slotOf s van) refl ok verdict j
+agrees m s mem counts sound stand weights (Move van u v offset) ok verdict j = move-agrees m s mem counts sound stand weights van u v offset (slotOf s van) refl ok verdict j
+agrees m s mem counts sound stand weights (Remove van) ok verdict j = agrees-by m s (Remove van) verdict _ j (remove-agrees m s van (slotOf s van) refl ok)
+agrees m s mem counts sound stand weights (Claim van stamp desk) ok verdict j = agrees-by m s (Claim van stamp desk) verdict _ j (claim-agrees m s van stamp desk (slotOf s van) refl ok)
+agrees m s mem counts sound stand weights (Release van desk) ok verdict j = agrees-by m s (Release van desk) verdict _ j (release-agrees m s van desk (slotOf s van) refl ok)

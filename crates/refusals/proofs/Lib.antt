@@ -1,0 +1,4 @@
+-- Laws of the verdicts.
+pub mod Ways
+pub mod Agrees
+pub mod Later

@@ -1,0 +1,71 @@
+-- `road_lookup::first_to` halves what is left, and every turn keeps that the ends before it are below `to` and those after it are not.
+-- Assumes nothing.
+use Prim.Native.Nat.{_-_}
+use native.Mathlib.Omega.{arith}
+use borrow.Author.Needs.{needs}
+use Rattle.road_lookup.specs.Lookup.{endIn}
+use Rattle.road_lookup.proofs.Narrowed.{Narrowed, at-start, go-up, go-down, at-end}
+use Rattle.road_lookup.proofs.first_to.Statement.{statement}
+use Rattle.road_lookup.proofs.first_to.Tie as tie
+
+abbrev Inv-loop : tie.InvT-loop
+Inv-loop mem counts low high to from₀ until₀ from until = Narrowed (endIn mem counts) low high to from until
+
+abbrev μ-loop : tie.MeasureT-loop
+μ-loop mem counts low high to from₀ until₀ from until = until - from
+
+loop-holds : tie.Need-loop-holds Inv-loop μ-loop
+loop-holds c = at-start _ _ _ _
+
+sub-middle : tie.Need-sub-middle Inv-loop μ-loop
+sub-middle c = omega arith
+
+add-middle : tie.Need-add-middle Inv-loop μ-loop
+add-middle c = omega arith
+
+road-end-requires : tie.Need-road-end-requires Inv-loop μ-loop
+road-end-requires c κs = search needs
+
+add-from : tie.Need-add-from Inv-loop μ-loop
+add-from c = omega arith
+
+loop-less : tie.Need-loop-less Inv-loop μ-loop
+loop-less c = omega arith
+
+loop-again : tie.Need-loop-again Inv-loop μ-loop
+loop-again c =
+    let a = c .before .before .before .before .before .args in
+    let l = c .before .before .before .loop in
+    go-up (endIn (a .mem .now) (a .counts)) (a .low) (a .high) (a .to) (l .from) (l .until) _ (l .inv) (omega arith) (omega arith) (omega (arith, c .before .road-end .ensures))
+
+loop-less-2 : tie.Need-loop-less-2 Inv-loop μ-loop
+loop-less-2 c = omega arith
+
+loop-again-2 : tie.Need-loop-again-2 Inv-loop μ-loop
+loop-again-2 c =
+    let a = c .before .before .before .before .before .args in
+    let l = c .before .before .before .loop in
+    go-down (endIn (a .mem .now) (a .counts)) (a .low) (a .high) (a .to) (l .from) (l .until) _ (l .inv) (omega arith) (omega arith) (omega (arith, c .before .road-end .ensures))
+
+returns : tie.Need-returns Inv-loop μ-loop
+returns c =
+    let a = c .before .before .before .args in
+    let l = c .before .loop in
+    at-end (endIn (a .mem .now) (a .counts)) (a .low) (a .high) (a .to) (l .from) (l .until) (l .inv) (omega arith)
+
+pub first-to-spec : {M : Type 1} → statement M
+first-to-spec =
+    tie.close
+    (tie.spec
+    Inv-loop
+    μ-loop
+    loop-holds
+    sub-middle
+    add-middle
+    road-end-requires
+    add-from
+    loop-less
+    loop-again
+    loop-less-2
+    loop-again-2
+    returns)

@@ -1,0 +1,2 @@
+-- What the lookup of a road finds.
+pub mod Lookup

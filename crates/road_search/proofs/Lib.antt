@@ -1,0 +1,4 @@
+pub mod Model
+pub mod Fans
+pub mod Turns
+pub mod Shown

@@ -1,0 +1,59 @@
+-- `van_lists::put_in` is `putIn`.
+-- Assumes nothing.
+use Rattle.van_lists.proofs.Chain.{put-in}
+use borrow.Author.Needs.{needs}
+use Rattle.van_lists.proofs.put_in.Statement.{statement}
+use Rattle.van_lists.proofs.put_in.Tie as tie
+
+van-at-requires : tie.Need-van-at-requires
+van-at-requires c κs = search needs
+
+add-link : tie.Need-add-link
+add-link c = search needs
+
+behind-requires : tie.Need-behind-requires
+behind-requires c κs = search needs
+
+word-requires : tie.Need-word-requires
+word-requires c κs = search needs
+
+add-put : tie.Need-add-put
+add-put c = search needs
+
+put-requires : tie.Need-put-requires
+put-requires c κs = search needs
+
+put-requires-2 : tie.Need-put-requires-2
+put-requires-2 c κs = search needs
+
+write-van-requires : tie.Need-write-van-requires
+write-van-requires c κs = search needs
+
+same-length : tie.Need-same-length
+same-length c = search needs
+
+returns : tie.Need-returns
+returns c =
+    let a = c .before .before .before .before .before .before .before .before .before .before .before .before .before .before .before .before .before .before .args in
+    let van-at = c .before .before .before .before .before .before .before .before .before .before .before .before .before .before .before .before .van-at in
+    let behind = c .before .before .before .before .before .before .before .before .before .before .before .before .before .before .behind in
+    let word = c .before .before .before .before .before .before .before .before .before .before .before .before .word in
+    let put = c .before .before .before .before .before .before .before .before .before .before .put in
+    let put2 = c .before .before .before .before .before .before .put2 in
+    let write-van = c .before .before .write-van in
+    put-in (a .mem .now) (a .counts) (a .van) (a .vertex) (a .words) _ _ _ _ _ _ (van-at .ensures) (behind .ensures) (word .ensures) (put .ensures) (put2 .ensures) (write-van .ensures)
+
+pub put-in-spec : {M : Type 1} → statement M
+put-in-spec =
+    tie.close
+    (tie.spec
+    van-at-requires
+    add-link
+    behind-requires
+    word-requires
+    add-put
+    put-requires
+    put-requires-2
+    write-van-requires
+    same-length
+    returns)

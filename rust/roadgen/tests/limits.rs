@@ -1,0 +1,65 @@
+//! What is made keeps within the limits of a map, and is the same each time.
+
+use roadgen::*;
+
+fn check(vertices: usize, seed: u64) {
+    let network = network(Plan::town(vertices), seed);
+    assert_eq!(network.vertices(), vertices);
+    for pair in network.roads.windows(2) {
+        assert!((pair[0].from, pair[0].to) < (pair[1].from, pair[1].to));
+    }
+    for road in &network.roads {
+        assert!((road.from as usize) < vertices && (road.to as usize) < vertices && road.from != road.to);
+        assert!((1..=MOST_WEIGHT).contains(&road.weight));
+    }
+    let map = cut(&network).expect("the cuts keep within the limits");
+    let parts = map.parents.len();
+    assert!(parts <= MOST_PARTS);
+    let mut levels = vec![1; parts];
+    let mut children = vec![0; parts];
+    let mut held = vec![0; parts];
+    assert_eq!(map.parents[0], NO_PARENT);
+    for p in 1..parts {
+        let parent = map.parents[p] as usize;
+        assert!(parent < p);
+        children[parent] += 1;
+        levels[p] = levels[parent] + 1;
+        assert!(levels[p] <= MOST_LEVELS);
+    }
+    for &leaf in &map.leaves {
+        held[leaf as usize] += 1;
+    }
+    let borders = borders(&map);
+    for p in 0..parts {
+        if children[p] == 0 {
+            assert!((1..=MOST_IN_LEAF).contains(&held[p]));
+        } else {
+            assert!((2..=MOST_CHILDREN).contains(&children[p]));
+            assert_eq!(held[p], 0);
+            assert!(borders[p] <= MOST_BORDERS, "part {p} has {} borders", borders[p]);
+        }
+    }
+    let records = 4 + 8 + 4 + 2 + 2 * parts + 4 + 2 + 2 * vertices + 4 + 2 + 8 * map.roads.len();
+    assert_eq!(map.bytes().len(), records);
+    for place in fleet(&map.roads, 100, seed) {
+        let road = map.roads.iter().find(|r| r.from == place.from && r.to == place.to).expect("a van stands on a road");
+        assert!(place.offset <= road.weight);
+    }
+}
+
+#[test]
+fn towns_keep_within_the_limits() {
+    for vertices in [1, 2, 3, 5, 31, 32, 33, 64, 100, 500, 1000, 2048, 4096] {
+        let seeds = if vertices == 1 { 0 } else { 5 };
+        for seed in 0..seeds {
+            check(vertices, seed);
+        }
+    }
+}
+
+#[test]
+fn one_seed_gives_one_network() {
+    let plan = Plan::town(300);
+    assert_eq!(network(plan, 7).roads, network(plan, 7).roads);
+    assert_ne!(network(plan, 7).roads, network(plan, 8).roads);
+}
