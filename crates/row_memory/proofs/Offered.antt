@@ -2,7 +2,6 @@
 -- Assumes nothing.
 use mathlib.Core.Path.{_≡_, refl, sym, _∙_, subst⁻¹}
 use mathlib.Core.Logic.{_⊎_, inl, inr, ⊎-elim, _≢_}
-use mathlib.Core.Bool.{Bool, true, false, cond}
 use mathlib.Core.List.{List}
 use Prim.Native.Nat.{ℕ, _+_, _*_, _<_}
 use native.Mathlib.Decide.{decLt}
@@ -66,32 +65,17 @@ pub shown-length : (mem : List ℕ) (at : ℕ) (row : Row) → length (shown mem
 shown-length mem at row = simp length-set
 
 module _ (mem : List ℕ) (to v x d : ℕ) where
-  next : Row
-  next = record { vertex = v; distance = x + d }
-
   pub offered-row : to + 1 < length mem → Plain (rowIn mem to) → rowIn (offered mem to v x d) to ≡ nearer (onward (record { vertex = v; distance = x }) d) (rowIn mem to)
-  unfolding offered offeredTo next
-  offered-row fits plain = by (improves (rowIn mem to) v x d) ∙ offered-near (rowIn mem to) v x d plain
-    where
-      by : (b : Bool) → rowIn (cond b (shown mem to next) mem) to ≡ cond b next (rowIn mem to)
-      by true = shown-row mem to next fits
-      by false = refl
+  unfolding offered
+  offered-row fits plain = shown-row mem to (offeredTo (rowIn mem to) v x d) fits ∙ offered-near (rowIn mem to) v x d plain
 
   pub offered-word : (a : ℕ) → (a ≡ to → ⊥) → (a ≡ to + 1 → ⊥) → word (offered mem to v x d) a ≡ word mem a
-  unfolding offered next
-  offered-word a p q = by (improves (rowIn mem to) v x d)
-    where
-      by : (b : Bool) → word (cond b (shown mem to next) mem) a ≡ word mem a
-      by true = shown-others mem to next a p q
-      by false = refl
+  unfolding offered
+  offered-word a p q = shown-others mem to (offeredTo (rowIn mem to) v x d) a p q
 
   pub offered-length : length (offered mem to v x d) ≡ length mem
-  unfolding offered next
-  offered-length = by (improves (rowIn mem to) v x d)
-    where
-      by : (b : Bool) → length (cond b (shown mem to next) mem) ≡ length mem
-      by true = shown-length mem to next
-      by false = refl
+  unfolding offered
+  offered-length = shown-length mem to (offeredTo (rowIn mem to) v x d)
 
 -- Only row i of a part's rows changed.
 pub record OneRow (rows size i : ℕ) (mem after : List ℕ) : Type 0 where

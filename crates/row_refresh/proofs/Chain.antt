@@ -3,17 +3,19 @@
 use mathlib.Core.Path.{_≡_, refl, sym, _∙_, ap}
 use mathlib.Core.Bool.{Bool, true, false, _||_, _&&_, cond}
 use mathlib.Core.List.{List}
-use Prim.Native.Nat.{ℕ, zero, suc, _+_, _-_, _*_, _≤_, _<_}
+use mathlib.Core.Logic.{inl, inr}
+use Prim.Native.Nat.{ℕ, zero, suc, _+_, _-_, _*_, _/_, _%_, _≤_, _<_}
 use native.Mathlib.Nat.{mul-suc, mul-le-mul-left}
+use native.Mathlib.Decide.{ℕ-discrete, decLt}
 use native.Mathlib.Omega.{arith}
 use lib.ListN.{length, getD, set, replicate}
 use lib.Dec.{eqb, ltb, leb}
-use borrow.Author.Tests.{ltb-true, lt-ltb, le-ltb, eq-eqb, ne-eqb, le-leb, lt-leb}
+use borrow.Author.Tests.{lt-ltb, le-ltb, eq-eqb, ne-eqb, le-leb, lt-leb}
 use Rattle.words.specs.Limits.{FAR}
-use Rattle.words.proofs.Tests.{both-true}
+use Rattle.words.proofs.Tests.{PairBefore, pair-if}
 use Rattle.rows.specs.declared.Row.{Row}
 use Rattle.rows.specs.Row.{emptyRow, comesBefore}
-use Rattle.row_refresh.specs.Model.{rowIn, shown, sourceIn, improves, offeredTo, offered, spread, isNews, met, arrived, anyNews, anyShows, noted, notedCount, listed, listedCount, sources, sourceCount, gathered, renewed, departed, partAt, rowsHere, fits, changed, touches, refreshed, touched, refreshedUp, vertexAt, ownRow, switched}
+use Rattle.row_refresh.specs.Model.{rowIn, shown, sourceIn, improves, offeredTo, offered, placed, unplaced, placedSeen, spread, isNews, met, arrived, anyNews, anyShows, noted, notedCount, listed, listedCount, sources, sourceCount, gathered, renewed, departed, partAt, rowsHere, fits, changed, touches, refreshed, touched, refreshedUp, vertexAt, ownRow, switched}
 
 -- one line less of a table
 pub line-less : (size left n : ℕ) → left ≡ suc n → size * left ≡ size * n + size
@@ -35,40 +37,60 @@ module _ (mem : List ℕ) where
   pub source-is : (row w below : ℕ) (out : Row) → w ≡ getD mem (row + 3) 0 → below ≡ w → out ≡ rowIn mem below → out ≡ sourceIn mem row
   source-is row w below out p q r = r ∙ ap (rowIn mem) (q ∙ p)
 
+-- A row as one number.
+pub row-of-is : (place a b : ℕ) (row : Row) → (row .vertex ≡ a) × (row .distance ≡ b) → a ≡ place % 4294967296 → b ≡ place / 4294967296 → row ≡ unplaced place
+row-of-is place a b row e p q = let v = e .0 ∙ p in let d = e .1 ∙ q in λ t. record { vertex = v t; distance = d t }
+
+placed-row : (v d : ℕ) → v < 4294967296 → unplaced (placed v d) ≡ record { vertex = v; distance = d }
+placed-row v d small =
+    let a : (placed v d % 4294967296 ≡ v) = omega arith in
+    let b : (placed v d / 4294967296 ≡ d) = omega arith in
+    λ t. record { vertex = a t; distance = b t }
+
 -- An offer.
 module _ (v x d : ℕ) where
-  module _ (seen : Row) (s : (seen .vertex ≡ v) × (seen .distance ≡ x + d)) where
-    seen-is : seen ≡ record { vertex = v; distance = x + d }
-    seen-is = let a = s .0 in let b = s .1 in λ t. record { vertex = a t; distance = b t }
+  pub seen-near : (out : ℕ) → d < FAR - x → out ≡ placed v (x + d) → out ≡ placedSeen v x d
+  unfolding placedSeen
+  seen-near out near e = rw (lt-ltb (x + d) FAR (omega arith)) e
 
-    pub improves-is : (row other : Row) (test : Bool) → d < FAR - x → other ≡ row → test ≡ comesBefore seen other → improves row v x d ≡ test
-    unfolding improves
-    improves-is row other test near o tested = rw (lt-ltb (x + d) FAR (omega arith)) (sym (tested ∙ λ t. comesBefore (seen-is t) (o t)))
+  pub seen-far : x ≤ FAR → FAR - x ≤ d → 18446744073709551615 ≡ placedSeen v x d
+  unfolding placedSeen
+  seen-far most far = rw (le-ltb (x + d) FAR (omega arith))
 
-    pub offered-to : (row : Row) → improves row v x d ≡ true → seen ≡ offeredTo row v x d
-    unfolding offeredTo
-    offered-to row yes-test = rw yes-test seen-is
+  module _ (row seen : ℕ) (e : seen ≡ placedSeen v x d) (small : v < 4294967296) (fits : row < 18446744073709551616) where
+    pub nearer-taken : seen < row → unplaced seen ≡ offeredTo (unplaced row) v x d
+    unfolding placedSeen offeredTo improves
+    nearer-taken less = by (decLt (x + d) FAR)
+      where
+        by : Dec (x + d < FAR) → unplaced seen ≡ offeredTo (unplaced row) v x d
+        by (no far) = let s : (seen ≡ 18446744073709551615) = e ∙ rw (le-ltb (x + d) FAR (omega (arith, far))) in absurd (omega arith)
+        by (yes near) =
+            let s : (seen ≡ placed v (x + d)) = e ∙ rw (lt-ltb (x + d) FAR near) in
+            rw (lt-ltb (x + d) FAR near, pair-if (x + d) v (row / 4294967296) (row % 4294967296) (before s (decLt (x + d) (row / 4294967296)))) (ap unplaced s ∙ placed-row v (x + d) small)
+          where
+            before : seen ≡ placed v (x + d) → Dec (x + d < row / 4294967296) → PairBefore (x + d) v (row / 4294967296) (row % 4294967296)
+            before s (yes nearer) = inl nearer
+            before s (no tie) = inr (omega (arith, tie), omega (arith, tie))
 
-  pub improves-near : (row : Row) → improves row v x d ≡ true → x + d < FAR
-  unfolding improves
-  improves-near row yes-test = ltb-true (x + d) FAR (both-true (ltb (x + d) FAR) _ yes-test .0)
+    pub nearer-left : row ≤ seen → unplaced row ≡ offeredTo (unplaced row) v x d
+    unfolding placedSeen offeredTo improves
+    nearer-left most = by (decLt (x + d) FAR)
+      where
+        by : Dec (x + d < FAR) → unplaced row ≡ offeredTo (unplaced row) v x d
+        by (no far) = rw (le-ltb (x + d) FAR (omega (arith, far)))
+        by (yes near) =
+            let s : (seen ≡ placed v (x + d)) = e ∙ rw (lt-ltb (x + d) FAR near) in
+            rw (lt-ltb (x + d) FAR near, le-ltb (x + d) (row / 4294967296) (omega arith)) (tie s (ℕ-discrete (x + d) (row / 4294967296)))
+          where
+            tie : seen ≡ placed v (x + d) → Dec (x + d ≡ row / 4294967296) → unplaced row ≡ cond (eqb (x + d) (row / 4294967296) && ltb v (row % 4294967296)) (record { vertex = v; distance = x + d }) (unplaced row)
+            tie s (yes same) = rw (eq-eqb (x + d) (row / 4294967296) same, le-ltb v (row % 4294967296) (omega arith))
+            tie s (no other) = rw (ne-eqb (x + d) (row / 4294967296) other)
 
-  pub improves-far : (row : Row) → x ≤ FAR → FAR - x ≤ d → improves row v x d ≡ false
-  unfolding improves
-  improves-far row most far = rw (le-ltb (x + d) FAR (omega arith))
-
-  pub offered-past : (row : Row) → improves row v x d ≡ false → row ≡ offeredTo row v x d
-  unfolding offeredTo
-  offered-past row no-test = rw no-test
-
-  module _ (mem : List ℕ) (to : ℕ) where
-    pub offered-shown : improves (rowIn mem to) v x d ≡ true → set (set mem to v) (to + 1) (x + d) ≡ offered mem to v x d
-    unfolding offered
-    offered-shown yes-test = rw yes-test
-
-    pub offered-passed : improves (rowIn mem to) v x d ≡ false → mem ≡ offered mem to v x d
-    unfolding offered
-    offered-passed no-test = rw no-test
+  pub offered-is : (mem : List ℕ) (to old new : ℕ) (row : Row) → (old % 4294967296 ≡ getD mem to 0) × (old / 4294967296 ≡ getD mem (to + 1) 0) → unplaced new ≡ offeredTo (unplaced old) v x d → row ≡ unplaced new
+      → set (set mem to (row .vertex)) (to + 1) (row .distance) ≡ offered mem to v x d
+  unfolding offered
+  offered-is mem to old new row p q r =
+      let a = p .0 in let b = p .1 in ap (shown mem to) (r ∙ q ∙ λ t. offeredTo (record { vertex = a t; distance = b t }) v x d)
 
 -- One turn of a loop does one step of its model, and where nothing is left the model is done.
 

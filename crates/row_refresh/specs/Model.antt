@@ -1,5 +1,5 @@
 -- What the functions of this crate do to any list of words. A row is named by the address of its first word.
-use Prim.Native.Nat.{ℕ, zero, suc, _+_, _*_}
+use Prim.Native.Nat.{ℕ, zero, suc, _+_, _*_, _/_, _%_}
 use mathlib.Core.Bool.{Bool, true, false, _||_, _&&_, cond}
 use mathlib.Core.List.{List}
 use lib.ListN.{length, set, replicate}
@@ -29,8 +29,20 @@ improves row v x d = ltb (x + d) FAR && comesBefore (record { vertex = v; distan
 unfoldable pub offeredTo : Row → ℕ → ℕ → ℕ → Row
 offeredTo row v x d = cond (improves row v x d) (record { vertex = v; distance = x + d }) row
 
+-- a row made to show it, if it does
 unfoldable pub offered : List ℕ → ℕ → ℕ → ℕ → ℕ → List ℕ
-offered mem to v x d = cond (improves (rowIn mem to) v x d) (shown mem to (record { vertex = v; distance = x + d })) mem
+offered mem to v x d = shown mem to (offeredTo (rowIn mem to) v x d)
+
+-- A row as one number: its vertex stands in the lower 32 bits, its distance above.
+abbrev pub placed : ℕ → ℕ → ℕ
+placed vertex distance = distance * 4294967296 + vertex
+
+abbrev pub unplaced : ℕ → Row
+unplaced place = record { vertex = place % 4294967296; distance = place / 4294967296 }
+
+-- vertex v at distance x, seen d further on; past every row where that is too far
+unfoldable pub placedSeen : ℕ → ℕ → ℕ → ℕ
+placedSeen v x d = cond (ltb (x + d) FAR) (placed v (x + d)) 18446744073709551615
 
 -- An arrival.
 

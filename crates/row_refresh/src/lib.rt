@@ -6,14 +6,19 @@ use cells::word;
 use rows::Row;
 ghost use mathlib.Core.Path.{_≡_};
 ghost use mathlib.Core.Bool.{true, false, _||_};
-ghost use Prim.Native.Nat.{_+_, _*_, _≤_, _<_};
+ghost use Prim.Native.Nat.{_+_, _*_, _/_, _%_, _≤_, _<_};
 ghost use lib.ListN.{length};
 ghost use Rattle.rows.specs.Row.{emptyRow};
-ghost use Rattle.row_refresh.specs.Model.{rowIn, shown, sourceIn, improves, offered, spread, isNews, met, arrived, anyNews, anyShows, noted, notedCount, listed, listedCount, sources, sourceCount, gathered, renewed, departed, rowsHere, fits, changed, touches, refreshed, touched, refreshedUp, ownRow, vertexAt, switched};
+ghost use Rattle.row_refresh.specs.Model.{rowIn, shown, sourceIn, offeredTo, offered, placed, unplaced, placedSeen, spread, isNews, met, arrived, anyNews, anyShows, noted, notedCount, listed, listedCount, sources, sourceCount, gathered, renewed, departed, rowsHere, fits, changed, touches, refreshed, touched, refreshedUp, ownRow, vertexAt, switched};
 
 const MOST_ROWS: usize = 128;
 
 const MOST_LEVELS: usize = 16;
+
+// The places of the empty row, and of what is too far to be seen.
+const EMPTY_PLACE: u64 = 18446744069414649855;
+
+const LAST_PLACE: u64 = 18446744073709551615;
 
 // What the two words at an address show.
 fn row_at(mem: &[u32], at: usize) -> Row
@@ -39,18 +44,46 @@ fn source(mem: &[u32], row: usize) -> Row
     row_at(mem, wide(word(mem, row + 3)))
 }
 
+// A row as one number, from which it can be read back: of two rows the one that comes before has the lesser.
+fn place(vertex: u32, distance: u32) -> u64
+    ensures { λ r. ⌜ (r ≡ placed vertex distance) × (r % 4294967296 ≡ vertex) × (r / 4294967296 ≡ distance) ⌝ }
+{
+    distance as u64 * 4294967296 + vertex as u64
+}
+
+fn row_of(place: u64) -> Row
+    ensures { λ r. ⌜ r ≡ unplaced place ⌝ }
+{
+    Row::showing((place % 4294967296) as u32, (place / 4294967296) as u32)
+}
+
+// The place of vertex v at distance x, seen d further on; where that is too far, one that comes before no row.
+fn place_seen(v: u32, x: u32, d: u32) -> u64
+    ensures { λ r. ⌜ r ≡ placedSeen v x d ⌝ }
+{
+    if d < Row::FAR - x {
+        return place(v, x + d);
+    }
+    LAST_PLACE
+}
+
+// Of a row, and of vertex v at distance x seen d further on, the one that comes before.
+fn nearer_place(row: u64, v: u32, x: u32, d: u32) -> u64
+    ensures { λ r. ⌜ unplaced r ≡ offeredTo (unplaced row) v x d ⌝ }
+{
+    let seen = place_seen(v, x, d);
+    if seen < row { seen } else { row }
+}
+
 // Vertex v at distance x is offered to a row that stands d further on.
 fn offer(mem: &mut [u32], to: usize, v: u32, x: u32, d: u32)
     requires { ⌜ to + 1 < length (now mem) ⌝ }
     ensures { λ _. ⌜ now (mem .exit) ≡ offered (now (mem .entry)) to v x d ⌝ }
 {
-    if d < Row::FAR - x {
-        let seen = Row::showing(v, x + d);
-        if seen.comes_before(Row::showing(mem[to], mem[to + 1])) {
-            mem[to] = v;
-            mem[to + 1] = x + d;
-        }
-    }
+    let old = place(mem[to], mem[to + 1]);
+    let row = row_of(nearer_place(old, v, x, d));
+    mem[to] = row.vertex;
+    mem[to + 1] = row.distance;
 }
 
 // Vertex v at distance x is offered to `size` rows, with the distances of a line of the table.
@@ -160,36 +193,23 @@ fn list_sources(mem: &[u32], rows: usize, size: usize, list: &mut [u32]) -> usiz
     n
 }
 
-// Vertex v at distance x, seen d further on, comes before a row.
-fn is_nearer(row: Row, v: u32, x: u32, d: u32) -> bool
-    ensures { λ r. ⌜ r ≡ improves row v x d ⌝ }
-{
-    if d < Row::FAR - x {
-        let seen = Row::showing(v, x + d);
-        return seen.comes_before(row);
-    }
-    false
-}
-
 // The nearest of `count` listed sources, with the distances of a column of the table.
 fn gather(mem: &[u32], list: &[u32], count: usize, size: usize, column: usize) -> Row
     requires { ⌜ (3 * count ≤ length (now list)) × (column < 8589934592) × (size ≤ 128) ⌝ }
     ensures { λ r. ⌜ r ≡ gathered count (now (mem .entry)) (now (list .entry)) size column 0 emptyRow ⌝ }
 {
-    let mut best = Row::empty();
+    let mut best = EMPTY_PLACE;
     let mut from = 0;
     let mut left = count;
     while 0 < left {
         let v = list[from];
         let x = list[from + 1];
         let d = word(mem, column + wide(word(list, from + 2)) * size);
-        if is_nearer(best, v, x, d) {
-            best = Row::showing(v, x + d);
-        }
+        best = nearer_place(best, v, x, d);
         from += 3;
         left -= 1;
     }
-    best
+    row_of(best)
 }
 
 // A row that shows v is made anew.
