@@ -7,3 +7,4 @@ pub mod Turns
 pub mod Ends
 pub mod Calls
 pub mod Writing
+pub mod Nearest
