@@ -20,12 +20,12 @@ module _ {mem : List ℕ} {first table size : ℕ} {dx : List ℕ} where
       record {
         same-length = refl;
         no-more = λ u. omega arith;
-        ways = λ i j h. absurd (omega arith);
+        ways = λ metric i j h. absurd (omega arith);
         far = λ i h. absurd (omega arith);
         honest = λ bound most least ways. least;
       }
 
-  module _ {places near : List ℕ} {count : ℕ} (g : Gathered mem first dx size places near count) {i : ℕ} {dx′ : List ℕ} (h : i < size) (c : Closer mem first table size dx i dx′)
+  module _ {places near : List ℕ} {count : ℕ} (g : Gathered mem first table size dx size places near count) {i : ℕ} {dx′ : List ℕ} (h : i < size) (c : Closer mem first table size dx i dx′)
       {way w v wide : ℕ} {dx″ : List ℕ} (isWay : Least (wayIn mem (table + size * i) places near) count way)
       (isWord : w ≡ word mem (first + 4 * i + 2)) (isVertex : v ≡ w % 65536) (isWide : wide ≡ v) (isAfter : dx″ ≡ lowered dx′ wide way) where
     owner-is : wide ≡ ownerAt mem first i
@@ -34,15 +34,22 @@ module _ {mem : List ℕ} {first table size : ℕ} {dx : List ℕ} where
     after-is : dx″ ≡ lowered dx′ (ownerAt mem first i) way
     after-is = isAfter ∙ ap (λ (k : ℕ). lowered dx′ k way) owner-is
 
-    way-by : (j : ℕ) → j < size → way ≤ word mem (table + size * i + j) + nearAt mem first dx j
+    -- no way by a third is shorter
+    abbrev Metric : Type 0
+    Metric = (a b e : ℕ) → a < size → b < size → e < size → word mem (table + size * a + e) ≤ word mem (table + size * a + b) + word mem (table + size * b + e)
+
+    way-by : Metric → (j : ℕ) → j < size → way ≤ word mem (table + size * i + j) + nearAt mem first dx j
     unfolding wayIn
-    way-by j hj = by (decLt (nearAt mem first dx j) FAR)
+    way-by metric j hj = by (decLt (nearAt mem first dx j) FAR)
       where
         by : Dec (nearAt mem first dx j < FAR) → way ≤ word mem (table + size * i + j) + nearAt mem first dx j
         by (no far) = omega (arith, far, isWay .most)
         by (yes close) =
-            let (t, ht, p, n) = g .all j hj close in
-            omega (arith, isWay .below t ht, ap (λ (k : ℕ). word mem (table + size * i + k)) p, n)
+            let (t, ht, how) = g .all j hj close in
+            ⊎-elim
+            (λ (p, n). omega (arith, isWay .below t ht, ap (λ (k : ℕ). word mem (table + size * i + k)) p, n))
+            (λ past. omega (arith, isWay .below t ht, past, metric i j (word places t) h hj (g .only t ht .0)))
+            how
 
     after-word : (u : ℕ) → word dx″ u ≡ word (lowered dx′ (ownerAt mem first i) way) u
     after-word u = ap (λ (l : List ℕ). word l u) after-is
@@ -53,7 +60,7 @@ module _ {mem : List ℕ} {first table size : ℕ} {dx : List ℕ} where
         record {
           same-length = ap length after-is ∙ lowered-length dx′ (ownerAt mem first i) way ∙ c .same-length;
           no-more = λ u. omega (arith, after-word u, lowered-no-more dx′ (ownerAt mem first i) way u, c .no-more u);
-          ways = λ r j hr hj. ways r j hr hj (ℕ-discrete r i);
+          ways = λ metric r j hr hj. ways metric r j hr hj (ℕ-discrete r i);
           far = λ r hr. far r hr (ℕ-discrete r i);
           honest = honest;
         }
@@ -64,9 +71,9 @@ module _ {mem : List ℕ} {first table size : ℕ} {dx : List ℕ} where
         before : (r : ℕ) → word dx″ (ownerAt mem first r) ≤ word dx′ (ownerAt mem first r)
         before r = omega (arith, after-word (ownerAt mem first r), lowered-no-more dx′ (ownerAt mem first i) way (ownerAt mem first r))
 
-        ways : (r j : ℕ) → r < i + 1 → j < size → Dec (r ≡ i) → word dx″ (ownerAt mem first r) ≤ word mem (table + size * r + j) + nearAt mem first dx j
-        ways r j hr hj (yes same) = omega (arith, here r same, way-by j hj, ap (λ (k : ℕ). word mem (table + size * k + j)) same)
-        ways r j hr hj (no other) = omega (arith, before r, c .ways r j (omega (arith, other)) hj)
+        ways : Metric → (r j : ℕ) → r < i + 1 → j < size → Dec (r ≡ i) → word dx″ (ownerAt mem first r) ≤ word mem (table + size * r + j) + nearAt mem first dx j
+        ways metric r j hr hj (yes same) = omega (arith, here r same, way-by metric j hj, ap (λ (k : ℕ). word mem (table + size * k + j)) same)
+        ways metric r j hr hj (no other) = omega (arith, before r, c .ways metric r j (omega (arith, other)) hj)
 
         far : (r : ℕ) → r < i + 1 → Dec (r ≡ i) → word dx″ (ownerAt mem first r) ≤ FAR
         far r hr (yes same) = omega (arith, here r same, isWay .most)
@@ -106,7 +113,13 @@ pub table-row : (size i : ℕ) → size ≤ 128 → i < size → size * i ≤ 16
 table-row size i few h = le-trans (mul-le-mul few (le-trans (le-of-lt h) few)) (omega arith)
 
 -- what the way over a row asks
-pub row-asks : (mem dx : List ℕ) (table size i : ℕ) → table < 2 ^ 32 → size ≤ 128 → i < size → {first : ℕ} {places near : List ℕ} {count : ℕ} → Gathered mem first dx size places near count
+pub row-asks : (mem dx : List ℕ) (table size i : ℕ) → table < 2 ^ 32 → size ≤ 128 → i < size → {first : ℕ} {places near : List ℕ} {count : ℕ} → Gathered mem first table size dx size places near count
     → (table + size * i < 2 ^ 33) × (size ≤ 128) × (count ≤ length places) × (count ≤ length near) × ((t : ℕ) → t < count → word places t < size)
 row-asks mem dx table size i ht few h g =
     (omega (arith, table-row size i few h), few, omega (arith, g .few, g .places-length), omega (arith, g .few, g .near-length), λ t ht. g .only t ht .0)
+
+-- what the test of row i asks
+pub held-asks : (mem dx : List ℕ) (table size i : ℕ) → table < 2 ^ 32 → size ≤ 128 → i < size → {first : ℕ} {places near : List ℕ} {count : ℕ} → Gathered mem first table size dx i places near count
+    → (table + size * i < 2 ^ 33) × (size ≤ 128) × (count ≤ length places) × (count ≤ length near) × ((t : ℕ) → t < count → word places t < size)
+held-asks mem dx table size i ht few h g =
+    (omega (arith, table-row size i few h), few, omega (arith, g .few, g .places-length), omega (arith, g .few, g .near-length), λ t ht. omega (arith, g .only t ht .0))

@@ -1,7 +1,7 @@
 -- What the functions of this crate compute, from any words.
 use mathlib.Core.Path.{_≡_}
 use mathlib.Core.Logic.{_⊎_}
-use mathlib.Core.Bool.{Bool, cond, _&&_}
+use mathlib.Core.Bool.{Bool, true, false, cond, _&&_}
 use mathlib.Core.List.{List, [], _∷_}
 use Prim.Native.Nat.{ℕ, zero, suc, _+_, _*_, _%_, _/_, _≤_, _<_, min}
 use lib.ListN.{length, set}
@@ -30,17 +30,24 @@ belowAt mem first i = word mem (word mem (first + 4 * i + 3) + 1)
 abbrev pub nearAt : List ℕ → ℕ → List ℕ → ℕ → ℕ
 nearAt mem first dx i = word dx (ownerAt mem first i)
 
--- the rows below `size` whose vertices have a distance: their places, and the distances
-pub record Gathered (mem : List ℕ) (first : ℕ) (dx : List ℕ) (size : ℕ) (places near : List ℕ) (count : ℕ) : Type 0 where
-  pub few : count ≤ size
-  pub places-length : length places ≡ 128
-  pub near-length : length near ≡ 128
-  pub all : (i : ℕ) → i < size → nearAt mem first dx i < FAR → (t : ℕ) × (t < count) × (word places t ≡ i) × (word near t ≡ nearAt mem first dx i)
-  pub only : (t : ℕ) → t < count → (word places t < size) × (word near t ≡ nearAt mem first dx (word places t))
-
 -- the way by the t-th of the gathered places
 unfoldable pub wayIn : List ℕ → ℕ → List ℕ → List ℕ → ℕ → ℕ
 wayIn mem at places near t = word mem (at + word places t) + word near t
+
+-- Of the rows below `done` whose vertices have a distance, places with their distances: each such row is one of them, or no nearer than a way by one of them.
+-- Row i's words of the table start at table + size * i.
+pub record Gathered (mem : List ℕ) (first table size : ℕ) (dx : List ℕ) (done : ℕ) (places near : List ℕ) (count : ℕ) : Type 0 where
+  pub few : count ≤ done
+  pub places-length : length places ≡ 128
+  pub near-length : length near ≡ 128
+  pub all : (i : ℕ) → i < done → nearAt mem first dx i < FAR
+      → (t : ℕ) × (t < count) × (((word places t ≡ i) × (word near t ≡ nearAt mem first dx i)) ⊎ (word mem (table + size * i + word places t) + word near t ≤ nearAt mem first dx i))
+  pub only : (t : ℕ) → t < count → (word places t < done) × (word near t ≡ nearAt mem first dx (word places t))
+
+-- a distance that is none, or is no nearer than a way by one of the places
+pub record Held (mem : List ℕ) (at : ℕ) (places near : List ℕ) (count d : ℕ) (r : Bool) : Type 0 where
+  pub yes-held : r ≡ true → (FAR ≤ d) ⊎ ((t : ℕ) × (t < count) × (wayIn mem at places near t ≤ d))
+  pub not-held : r ≡ false → d < FAR
 
 -- the same over the words of one row
 unfoldable pub wayOver : List ℕ → List ℕ → List ℕ → ℕ → ℕ
@@ -54,7 +61,9 @@ lowered words i x = cond (ltb x (word words i)) (set words i x) words
 pub record Closer (mem : List ℕ) (first table size : ℕ) (dx : List ℕ) (done : ℕ) (dx′ : List ℕ) : Type 0 where
   pub same-length : length dx′ ≡ length dx
   pub no-more : (u : ℕ) → word dx′ u ≤ word dx u
-  pub ways : (i j : ℕ) → i < done → j < size → word dx′ (ownerAt mem first i) ≤ word mem (table + size * i + j) + nearAt mem first dx j
+  -- in a table in which no way by a third is shorter
+  pub ways : ((a b c : ℕ) → a < size → b < size → c < size → word mem (table + size * a + c) ≤ word mem (table + size * a + b) + word mem (table + size * b + c))
+      → (i j : ℕ) → i < done → j < size → word dx′ (ownerAt mem first i) ≤ word mem (table + size * i + j) + nearAt mem first dx j
   pub far : (i : ℕ) → i < done → word dx′ (ownerAt mem first i) ≤ FAR
   -- and no less than that: whatever is at most the distances before, and at most each way, still is
   pub honest : (bound : ℕ → ℕ) → ((u : ℕ) → bound u ≤ FAR) → ((u : ℕ) → bound u ≤ word dx u)

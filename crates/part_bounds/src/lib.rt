@@ -13,7 +13,7 @@ ghost use lib.ListN.{length, set};
 ghost use Rattle.words.specs.Limits.{FAR};
 ghost use Rattle.words.specs.Lists.{word};
 ghost use Rattle.far_sums.specs.Least.{Least};
-ghost use Rattle.part_bounds.specs.Bounds.{partWord, rowsIn, Gathered, wayIn, wayOver, lowered, Closer, isNew, farCount, keyOf, Spread, outOf, keyAt};
+ghost use Rattle.part_bounds.specs.Bounds.{partWord, rowsIn, Gathered, Held, wayIn, wayOver, lowered, Closer, isNew, farCount, keyOf, Spread, outOf, keyAt};
 
 pub const MOST_ROWS: usize = 128;
 
@@ -42,24 +42,45 @@ pub fn row_word(mem: &[u32], first: usize, i: usize, w: usize) -> u32
     word(mem, first + 4 * i + w)
 }
 
-// The rows whose vertices have a distance: their places, and the distances.
+// The distance is none, or is no nearer than a way by one of the places.
+fn held(
+    mem: &[u32],
+    at: usize,
+    size: usize,
+    places: &[u32],
+    near: &[u32],
+    count: usize,
+    d: u32,
+) -> bool
+    requires { ⌜ (at < 2 ^ 33) × (size ≤ 128) × (count ≤ length (now places)) × (count ≤ length (now near)) × ((t : ℕ) → t < count → word (now places) t < size) ⌝ }
+    ensures { λ r. ⌜ Held (now (mem .entry)) at (now (places .entry)) (now (near .entry)) count d r ⌝ }
+{
+    if FAR <= d {
+        return true;
+    }
+    let way = row_way(mem, at, size, places, near, count);
+    way <= d
+}
+
+// Rows whose vertices have a distance, by way of which every other such row has its own: their places, and the distances.
 fn gather(
     mem: &[u32],
     first: usize,
+    table: usize,
     size: usize,
     dx: &[u32],
     places: &mut [u32],
     near: &mut [u32],
 ) -> usize
-    requires { ⌜ (first < 2 ^ 32) × (size ≤ 128) × (length (now places) ≡ 128) × (length (now near) ≡ 128) ⌝ }
-    ensures { λ r. ⌜ Gathered (now (mem .entry)) first (now (dx .entry)) size (now (places .exit)) (now (near .exit)) r ⌝ }
+    requires { ⌜ (first < 2 ^ 32) × (table < 2 ^ 32) × (size ≤ 128) × (length (now places) ≡ 128) × (length (now near) ≡ 128) ⌝ }
+    ensures { λ r. ⌜ Gathered (now (mem .entry)) first table size (now (dx .entry)) size (now (places .exit)) (now (near .exit)) r ⌝ }
 {
     let mut count = 0;
     let mut i = 0;
     while i < size {
         let v = row_word(mem, first, i, 2) % 65536;
         let d = word(dx, wide(v));
-        if d < FAR {
+        if !held(mem, table + size * i, size, places, near, count, d) {
             put(places, count, i as u32);
             put(near, count, d);
             count += 1;
@@ -137,7 +158,7 @@ pub fn relax(mem: &[u32], p: usize, dx: &mut [u32])
     let table = wide(part_word(mem, p, 3));
     let mut places = [0u32; 128];
     let mut near = [0u32; 128];
-    let count = gather(mem, first, size, dx, &mut places, &mut near);
+    let count = gather(mem, first, table, size, dx, &mut places, &mut near);
     relax_rows(mem, first, table, size, dx, &places, &near, count);
 }
 
@@ -151,7 +172,7 @@ fn relax_rows(
     near: &[u32],
     count: usize,
 )
-    requires { ⌜ (first < 2 ^ 32) × (table < 2 ^ 32) × (size ≤ 128) × Gathered (now mem) first (now dx) size (now places) (now near) count ⌝ }
+    requires { ⌜ (first < 2 ^ 32) × (table < 2 ^ 32) × (size ≤ 128) × Gathered (now mem) first table size (now dx) size (now places) (now near) count ⌝ }
     ensures { λ _. ⌜ Closer (now (mem .entry)) first table size (now (dx .entry)) size (now (dx .exit)) ⌝ }
 {
     let mut i = 0;

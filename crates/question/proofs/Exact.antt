@@ -83,6 +83,21 @@ module _ {m : Map} {s : State} {mem : List ℕ} (g : Genuine m s mem) (p : ℕ) 
     pub known : word dx by ≤ dist m by x
     pub splits : dist m r x ≡ dist m r by + dist m by x
 
+  -- the table's distances have no shorter way by a third
+  metric : (a b c : ℕ) → a < rowsIn mem p → b < rowsIn mem p → c < rowsIn mem p
+      → word mem (partWord mem p 3 + rowsIn mem p * a + c) ≤ word mem (partWord mem p 3 + rowsIn mem p * a + b) + word mem (partWord mem p 3 + rowsIn mem p * b + c)
+  metric a b c ha hb hc =
+      let ha′ : a < sizeOf m p = row-size ha in
+      let hb′ : b < sizeOf m p = row-size hb in
+      let hc′ : c < sizeOf m p = row-size hc in
+      omega (
+        arith,
+        entry-read g p hp a c ha′ hc′,
+        entry-read g p hp a b ha′ hb′,
+        entry-read g p hp b c hb′ hc′,
+        dist-triangle m net (rowVertex m p a) (row-below g p hp a ha′) (rowVertex m p b) (rowVertex m p c) (row-below g p hp b hb′),
+      )
+
   exact : (r : ℕ) → List·Memᴰ r (rowVertices m p) → (dist m r x ≢ FAR → Split r) → word dx′ r ≤ dist m r x
   exact r hr split = decided (ℕ-discrete (dist m r x) FAR)
     where
@@ -104,7 +119,7 @@ module _ {m : Map} {s : State} {mem : List ℕ} (g : Genuine m s mem) (p : ℕ) 
           omega (
             arith,
             at,
-            closer .ways (place .0) j within (omega (arith, hj, rows-read g p hp)),
+            closer .ways metric (place .0) j within (omega (arith, hj, rows-read g p hp)),
             entry-read g p hp (place .0) j (place .1) hj,
             ap (word dx) (owner-read g p hp j hj ∙ same),
             t .known,

@@ -1,0 +1,19 @@
+-- `held` tests a distance against the gathered places.
+-- Assumes nothing.
+use mathlib.Core.Path.{refl}
+use borrow.Author.Needs.{needs}
+use Rattle.part_bounds.proofs.Gathering.{held-far, held-by}
+use Rattle.part_bounds.proofs.held.Statement.{statement}
+use Rattle.part_bounds.proofs.held.Tie as tie
+
+returns : tie.Need-returns
+returns c = held-far _ _ _ _ _ _ (c .if1 .taken)
+
+row-way-requires : tie.Need-row-way-requires
+row-way-requires c κs = search needs
+
+returns-2 : tie.Need-returns-2
+returns-2 c = held-by _ _ _ _ _ _ (c .before .if1 .left) (c .row-way .ensures) refl
+
+pub held-spec : {M : Type 1} → statement M
+held-spec = tie.close (tie.spec returns row-way-requires returns-2)
