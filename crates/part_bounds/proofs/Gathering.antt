@@ -104,6 +104,9 @@ gathered-all {mem} {first} {table} {size} {dx} {i} {places} {near} {count} g low
 pub held-far : (mem : List ℕ) (at : ℕ) (places near : List ℕ) (count d : ℕ) → FAR ≤ d → Held mem at places near count d true
 held-far mem at places near count d far = record { yes-held = λ e. inl far; not-held = λ e. absurd (true≢false e) }
 
+pub held-not : (mem : List ℕ) (at : ℕ) (places near : List ℕ) (count d : ℕ) → d < FAR → Held mem at places near count d false
+held-not mem at places near count d real = record { yes-held = λ e. absurd (true≢false (sym e)); not-held = λ e. real }
+
 pub held-by : (mem : List ℕ) (at : ℕ) (places near : List ℕ) (count d : ℕ) {way : ℕ} {r : Bool} → d < FAR → Least (wayIn mem at places near) count way → r ≡ leb way d → Held mem at places near count d r
 held-by mem at places near count d {way} {r} real least isTest =
     record {

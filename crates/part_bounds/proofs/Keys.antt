@@ -2,15 +2,17 @@
 -- Assumes nothing.
 use mathlib.Core.Path.{_≡_, refl, sym, ap, subst, _∙_}
 use mathlib.Core.Logic.{_≢_}
+use mathlib.Core.Bool.{Bool, true, false}
 use mathlib.Core.List.{List}
 use Prim.Native.Nat.{ℕ, _+_, _*_, _/_, _%_, _≤_, _<_, min}
 use native.Mathlib.Omega.{arith}
-use borrow.Author.Tests.{eq-eqb, ne-eqb}
+use lib.Dec.{ltb}
+use borrow.Author.Tests.{eq-eqb, ne-eqb, lt-leb, le-leb}
 use Rattle.words.specs.Limits.{FAR}
 use Rattle.words.specs.Lists.{word}
 use Rattle.far_sums.specs.Least.{Least}
 use Rattle.far_sums.proofs.Least.{least-none, least-lower-by, least-stays-by}
-use Rattle.part_bounds.specs.Bounds.{childAt, nearAt, keyOf, outOf, keyAt}
+use Rattle.part_bounds.specs.Bounds.{childAt, nearAt, isAsked, keyOf, outOf, keyAt}
 
 module _ (mem : List ℕ) (first : ℕ) (dx : List ℕ) (i : ℕ) {owner : ℕ} (isOwner : owner ≡ word mem (first + 4 * i + 2)) where
   near-read : {wide d : ℕ} → wide ≡ owner % 65536 → d ≡ word dx wide → d ≡ nearAt mem first dx i
@@ -21,6 +23,21 @@ module _ (mem : List ℕ) (first : ℕ) (dx : List ℕ) (i : ℕ) {owner : ℕ} 
   unfolding keyOf
   key-read isRow isBelow isShown isWide isNear isSum =
       isSum ∙ (λ j. min ((isShown ∙ ap (λ (k : ℕ). word mem (k + 1)) (isBelow ∙ isRow)) j + near-read isWide isNear j) FAR)
+
+  -- the test whether a distance is asked for
+  pub asked-known : (all : Bool) {wide d : ℕ} → wide ≡ owner % 65536 → d ≡ word dx wide → d < FAR → false ≡ isAsked all mem first dx i
+  unfolding isAsked
+  asked-known all isWide isNear close = rw (lt-leb FAR (nearAt mem first dx i) (omega (arith, near-read isWide isNear))) refl
+
+  pub asked-all : {all : Bool} {wide d : ℕ} → wide ≡ owner % 65536 → d ≡ word dx wide → FAR ≤ d → all ≡ true → true ≡ isAsked all mem first dx i
+  unfolding isAsked
+  asked-all isWide isNear none isAll = rw (le-leb FAR (nearAt mem first dx i) (omega (arith, near-read isWide isNear)), isAll) refl
+
+  pub asked-shown : {all : Bool} {wide d row below shown : ℕ} → wide ≡ owner % 65536 → d ≡ word dx wide → FAR ≤ d → all ≡ false → row ≡ word mem (first + 4 * i + 3) → below ≡ row
+      → shown ≡ word mem (below + 1) → ltb shown 4294967295 ≡ isAsked all mem first dx i
+  unfolding isAsked
+  asked-shown isWide isNear none isAll isRow isBelow isShown =
+      rw (le-leb FAR (nearAt mem first dx i) (omega (arith, near-read isWide isNear)), isAll) (ap (λ (d : ℕ). ltb d FAR) (isShown ∙ ap (λ (k : ℕ). word mem (k + 1)) (isBelow ∙ isRow)))
 
   pub out-read : {c wide d : ℕ} → owner / 65536 ≡ c → wide ≡ owner % 65536 → d ≡ word dx wide → d ≡ outOf mem first dx c i
   unfolding outOf

@@ -56,6 +56,9 @@ module _ (words : List ℕ) (i x : ℕ) where
           inr (same, ap (λ (l : List ℕ). word l u) (lowered-set less) ∙ ap (word (set words i x)) same ∙ getD-set-same words i x 0 (within less), less)
       by (yes less) (no other) = inl (ap (λ (l : List ℕ). word l u) (lowered-set less) ∙ getD-set-other words i u x 0 other)
 
+  pub lowered-where : (u : ℕ) → (word (lowered words i x) u ≡ word words u) ⊎ (u ≡ i)
+  lowered-where u = ⊎-elim inl (λ (same, e, less). inr same) (lowered-at u)
+
   pub lowered-no-more : (u : ℕ) → word (lowered words i x) u ≤ word words u
   lowered-no-more u = ⊎-elim (λ e. omega arith) (λ (same, e, less). omega (arith, ap (word words) same)) (lowered-at u)
 

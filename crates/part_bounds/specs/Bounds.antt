@@ -1,7 +1,7 @@
 -- What the functions of this crate compute, from any words.
 use mathlib.Core.Path.{_≡_}
 use mathlib.Core.Logic.{_⊎_}
-use mathlib.Core.Bool.{Bool, true, false, cond, _&&_}
+use mathlib.Core.Bool.{Bool, true, false, cond, _&&_, _||_}
 use mathlib.Core.List.{List, [], _∷_}
 use Prim.Native.Nat.{ℕ, zero, suc, _+_, _*_, _%_, _/_, _≤_, _<_, min}
 use lib.ListN.{length, set}
@@ -57,14 +57,24 @@ wayOver row places near t = word row (word places t) + word near t
 unfoldable pub lowered : List ℕ → ℕ → ℕ → List ℕ
 lowered words i x = cond (ltb x (word words i)) (set words i x) words
 
--- Distances made less at the first `done` rows, each as little as a way by way of a row makes it: row i's words of the table start at table + size * i.
-pub record Closer (mem : List ℕ) (first table size : ℕ) (dx : List ℕ) (done : ℕ) (dx′ : List ℕ) : Type 0 where
+-- a row whose distance is asked for: it has none yet, and all are asked for, or something is shown one part further down
+unfoldable pub isAsked : Bool → List ℕ → ℕ → List ℕ → ℕ → Bool
+isAsked all mem first dx i = leb FAR (nearAt mem first dx i) && (all || ltb (belowAt mem first i) FAR)
+
+-- the rows of two vertices are two rows
+abbrev pub Apart : List ℕ → ℕ → ℕ → Type 0
+Apart mem first size = (a b : ℕ) → a < size → b < size → ownerAt mem first a ≡ ownerAt mem first b → a ≡ b
+
+-- Distances made less at those of the first `done` rows that they are asked for, each as little as a way by way of a row makes it: row i's words of the table start at table + size * i.
+pub record Closer (mem : List ℕ) (first table size : ℕ) (all : Bool) (dx : List ℕ) (done : ℕ) (dx′ : List ℕ) : Type 0 where
   pub same-length : length dx′ ≡ length dx
   pub no-more : (u : ℕ) → word dx′ u ≤ word dx u
+  -- no other distance changes
+  pub changed : Apart mem first size → (u : ℕ) → (word dx′ u ≡ word dx u) ⊎ ((i : ℕ) × (i < done) × (isAsked all mem first dx i ≡ true) × (ownerAt mem first i ≡ u))
   -- in a table in which no way by a third is shorter
-  pub ways : ((a b c : ℕ) → a < size → b < size → c < size → word mem (table + size * a + c) ≤ word mem (table + size * a + b) + word mem (table + size * b + c))
-      → (i j : ℕ) → i < done → j < size → word dx′ (ownerAt mem first i) ≤ word mem (table + size * i + j) + nearAt mem first dx j
-  pub far : (i : ℕ) → i < done → word dx′ (ownerAt mem first i) ≤ FAR
+  pub ways : ((a b c : ℕ) → a < size → b < size → c < size → word mem (table + size * a + c) ≤ word mem (table + size * a + b) + word mem (table + size * b + c)) → Apart mem first size
+      → (i j : ℕ) → i < done → j < size → isAsked all mem first dx i ≡ true → word dx′ (ownerAt mem first i) ≤ word mem (table + size * i + j) + nearAt mem first dx j
+  pub far : Apart mem first size → (i : ℕ) → i < done → isAsked all mem first dx i ≡ true → word dx′ (ownerAt mem first i) ≤ FAR
   -- and no less than that: whatever is at most the distances before, and at most each way, still is
   pub honest : (bound : ℕ → ℕ) → ((u : ℕ) → bound u ≤ FAR) → ((u : ℕ) → bound u ≤ word dx u)
       → ((i j : ℕ) → i < done → j < size → bound (ownerAt mem first i) ≤ word mem (table + size * i + j) + nearAt mem first dx j) → (u : ℕ) → bound u ≤ word dx′ u

@@ -13,7 +13,7 @@ ghost use lib.ListN.{length, set};
 ghost use Rattle.words.specs.Limits.{FAR};
 ghost use Rattle.words.specs.Lists.{word};
 ghost use Rattle.far_sums.specs.Least.{Least};
-ghost use Rattle.part_bounds.specs.Bounds.{partWord, rowsIn, Gathered, Held, wayIn, wayOver, lowered, Closer, isNew, farCount, keyOf, Spread, outOf, keyAt};
+ghost use Rattle.part_bounds.specs.Bounds.{partWord, rowsIn, Gathered, Held, wayIn, wayOver, lowered, isAsked, Closer, isNew, farCount, keyOf, Spread, outOf, keyAt};
 
 pub const MOST_ROWS: usize = 128;
 
@@ -42,7 +42,7 @@ pub fn row_word(mem: &[u32], first: usize, i: usize, w: usize) -> u32
     word(mem, first + 4 * i + w)
 }
 
-// The distance is none, or is no nearer than a way by one of the places.
+// The distance is none, or, where `all` asks, is no nearer than a way by one of the places.
 fn held(
     mem: &[u32],
     at: usize,
@@ -51,12 +51,16 @@ fn held(
     near: &[u32],
     count: usize,
     d: u32,
+    all: bool,
 ) -> bool
     requires { ⌜ (at < 2 ^ 33) × (size ≤ 128) × (count ≤ length (now places)) × (count ≤ length (now near)) × ((t : ℕ) → t < count → word (now places) t < size) ⌝ }
     ensures { λ r. ⌜ Held (now (mem .entry)) at (now (places .entry)) (now (near .entry)) count d r ⌝ }
 {
     if FAR <= d {
         return true;
+    }
+    if !all {
+        return false;
     }
     let way = row_way(mem, at, size, places, near, count);
     way <= d
@@ -68,6 +72,7 @@ fn gather(
     first: usize,
     table: usize,
     size: usize,
+    all: bool,
     dx: &[u32],
     places: &mut [u32],
     near: &mut [u32],
@@ -80,7 +85,7 @@ fn gather(
     while i < size {
         let v = row_word(mem, first, i, 2) % 65536;
         let d = word(dx, wide(v));
-        if !held(mem, table + size * i, size, places, near, count, d) {
+        if !held(mem, table + size * i, size, places, near, count, d, all) {
             put(places, count, i as u32);
             put(near, count, d);
             count += 1;
@@ -148,18 +153,34 @@ pub fn lower(words: &mut [u32], i: usize, x: u32)
     }
 }
 
-// The distance of each of the part's rows made as little as a way by way of a row makes it.
-pub fn relax(mem: &[u32], p: usize, dx: &mut [u32])
+// Of the part's rows that have no distance yet, all, or those below which something is shown: each gets as little as a way by way of a row makes it.
+pub fn relax(mem: &[u32], p: usize, all: bool, dx: &mut [u32])
     requires { ⌜ p < 2 ^ 32 ⌝ }
-    ensures { λ _. ⌜ Closer (now (mem .entry)) (partWord (now (mem .entry)) p 2) (partWord (now (mem .entry)) p 3) (rowsIn (now (mem .entry)) p) (now (dx .entry)) (rowsIn (now (mem .entry)) p) (now (dx .exit)) ⌝ }
+    ensures { λ _. ⌜ Closer (now (mem .entry)) (partWord (now (mem .entry)) p 2) (partWord (now (mem .entry)) p 3) (rowsIn (now (mem .entry)) p) all (now (dx .entry)) (rowsIn (now (mem .entry)) p) (now (dx .exit)) ⌝ }
 {
     let size = rows_in(mem, p);
     let first = wide(part_word(mem, p, 2));
     let table = wide(part_word(mem, p, 3));
     let mut places = [0u32; 128];
     let mut near = [0u32; 128];
-    let count = gather(mem, first, table, size, dx, &mut places, &mut near);
-    relax_rows(mem, first, table, size, dx, &places, &near, count);
+    let count = gather(mem, first, table, size, all, dx, &mut places, &mut near);
+    relax_rows(mem, first, table, size, all, dx, &places, &near, count);
+}
+
+// A row whose distance is asked for.
+fn is_asked(mem: &[u32], first: usize, i: usize, all: bool, dx: &[u32]) -> bool
+    requires { ⌜ (first < 2 ^ 32) × (i ≤ 128) ⌝ }
+    ensures { λ r. ⌜ r ≡ isAsked all (now (mem .entry)) first (now (dx .entry)) i ⌝ }
+{
+    let v = row_word(mem, first, i, 2) % 65536;
+    if word(dx, wide(v)) < FAR {
+        return false;
+    }
+    if all {
+        return true;
+    }
+    let below = wide(row_word(mem, first, i, 3));
+    word(mem, below + 1) < FAR
 }
 
 fn relax_rows(
@@ -167,19 +188,22 @@ fn relax_rows(
     first: usize,
     table: usize,
     size: usize,
+    all: bool,
     dx: &mut [u32],
     places: &[u32],
     near: &[u32],
     count: usize,
 )
     requires { ⌜ (first < 2 ^ 32) × (table < 2 ^ 32) × (size ≤ 128) × Gathered (now mem) first table size (now dx) size (now places) (now near) count ⌝ }
-    ensures { λ _. ⌜ Closer (now (mem .entry)) first table size (now (dx .entry)) size (now (dx .exit)) ⌝ }
+    ensures { λ _. ⌜ Closer (now (mem .entry)) first table size all (now (dx .entry)) size (now (dx .exit)) ⌝ }
 {
     let mut i = 0;
     while i < size {
-        let way = row_way(mem, table + size * i, size, places, near, count);
-        let v = row_word(mem, first, i, 2) % 65536;
-        lower(dx, wide(v), way);
+        if is_asked(mem, first, i, all, dx) {
+            let way = row_way(mem, table + size * i, size, places, near, count);
+            let v = row_word(mem, first, i, 2) % 65536;
+            lower(dx, wide(v), way);
+        }
         i += 1;
     }
 }

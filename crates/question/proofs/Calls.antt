@@ -29,11 +29,11 @@ use Rattle.question.proofs.Shown.{parent-read, child-read, leaf-read}
 use Rattle.question.proofs.Turns.{fewer, climbed, part-taken}
 use Rattle.question.proofs.Ends.{FirstLook, leaf-again, leaf-taken, stopped, limit-near, started}
 
-module _ (mem : List ℕ) (leaf : ℕ) (dx marks : List ℕ) (best : BestList) (k : ℕ) {p mark : ℕ} (isPart : p ≡ leaf) (isMark : mark ≡ word marks p) where
+module _ (mem : List ℕ) (leaf : ℕ) (all : Bool) (dx marks : List ℕ) (best : BestList) (k : ℕ) {p mark : ℕ} (isPart : p ≡ leaf) (isMark : mark ≡ word marks p) where
   mark-is : mark ≡ word marks leaf
   mark-is = isMark ∙ ap (word marks) isPart
 
-  pub leaf-left : mark ≡ 1 → best .len ≤ k → LeafTaken mem leaf dx marks best k dx marks best
+  pub leaf-left : mark ≡ 1 → best .len ≤ k → LeafTaken mem leaf all dx marks best k dx marks best
   leaf-left one few = record { few = few; again = λ e. (refl, refl, refl); first = λ fresh. absurd (fresh (sym mark-is ∙ one)) }
 
   -- the entries that the best hold now are those that the leaf's rows offered
@@ -42,14 +42,14 @@ module _ (mem : List ℕ) (leaf : ℕ) (dx marks : List ℕ) (best : BestList) (
       entries (stampIn mem counts) (best′ .fars) (best′ .vans) (best′ .len)
       ≡ offeredAll k (entries (stampIn mem counts) (best .fars) (best .vans) (best .len)) (leafOffers mem counts first dx′ size 0)
 
-  pub leaf-looked : {dx′ marks′ : List ℕ} {size shown first : ℕ} {counts : Counts} {best′ : BestList} → mark ≢ 1 → Relaxed mem p dx dx′ → marks′ ≡ set marks p 1 → size ≡ rowsIn mem p
-      → shown ≡ partWord mem p 2 → first ≡ shown → counts ≡ countsIn mem → best′ .len ≤ k → Offered counts first size dx′ best′ → LeafTaken mem leaf dx marks best k dx′ marks′ best′
+  pub leaf-looked : {dx′ marks′ : List ℕ} {size shown first : ℕ} {counts : Counts} {best′ : BestList} → mark ≢ 1 → Relaxed mem p all dx dx′ → marks′ ≡ set marks p 1 → size ≡ rowsIn mem p
+      → shown ≡ partWord mem p 2 → first ≡ shown → counts ≡ countsIn mem → best′ .len ≤ k → Offered counts first size dx′ best′ → LeafTaken mem leaf all dx marks best k dx′ marks′ best′
   leaf-looked {dx′} {marks′} {size} {shown} {first} {counts} {best′} other relaxed isMarks isSize isShown isFirst isCounts few offered =
       record {
         few = few;
         again = λ e. absurd (other (mark-is ∙ e));
         first = λ fresh. (
-          subst (λ (q : ℕ). Relaxed mem q dx dx′) isPart relaxed,
+          subst (λ (q : ℕ). Relaxed mem q all dx dx′) isPart relaxed,
           isMarks ∙ ap (λ (q : ℕ). set marks q 1) isPart,
           subst (λ (c : Counts). Offered c (partWord mem leaf 2) (rowsIn mem leaf) dx′ best′) isCounts
               (subst (λ (f : ℕ). Offered counts f (rowsIn mem leaf) dx′ best′) (isFirst ∙ isShown ∙ ap (λ (q : ℕ). partWord mem q 2) isPart)
@@ -57,10 +57,10 @@ module _ (mem : List ℕ) (leaf : ℕ) (dx marks : List ℕ) (best : BestList) (
         );
       }
 
-pub opened-up : (mem : List ℕ) (part : ℕ) (dx keys waits : List ℕ) (n : ℕ) {p : ℕ} {dx′ keys′ waits′ : List ℕ} {n′ : ℕ} → p ≡ part → Relaxed mem p dx dx′
-    → Spread mem (partWord mem p 2) dx′ (rowsIn mem p) keys waits n keys′ waits′ n′ → OpenedUp mem part dx keys waits n dx′ keys′ waits′ n′
-opened-up mem part dx keys waits n {dx′ = dx′} {keys′} {waits′} {n′} isPart relaxed spread =
-    subst (λ (q : ℕ). OpenedUp mem q dx keys waits n dx′ keys′ waits′ n′) isPart (relaxed, spread)
+pub opened-up : (mem : List ℕ) (part : ℕ) (all : Bool) (dx keys waits : List ℕ) (n : ℕ) {p : ℕ} {dx′ keys′ waits′ : List ℕ} {n′ : ℕ} → p ≡ part → Relaxed mem p all dx dx′
+    → Spread mem (partWord mem p 2) dx′ (rowsIn mem p) keys waits n keys′ waits′ n′ → OpenedUp mem part all dx keys waits n dx′ keys′ waits′ n′
+opened-up mem part all dx keys waits n {dx′ = dx′} {keys′} {waits′} {n′} isPart relaxed spread =
+    subst (λ (q : ℕ). OpenedUp mem q all dx keys waits n dx′ keys′ waits′ n′) isPart (relaxed, spread)
 
 pub bound-root : (mem : List ℕ) (part : ℕ) (dx : List ℕ) → part ≡ 0 → BoundOutside mem part dx FAR
 bound-root mem part dx root = record { root = λ e. refl; other = λ real. absurd (real root) }
@@ -105,7 +105,7 @@ module _ (mem : List ℕ) (k : ℕ) (dx keys waits : List ℕ) (st : Search) (fe
           positive n h = omega (arith, h)
 
   pub climb-goes : {keyed : ℕ} {keys₁ dx′ keys′ waits′ : List ℕ} {n out : ℕ} → above < st .part → keyed ≡ st .part → keys₁ ≡ lowered keys keyed 0
-      → OpenedUp mem above dx keys₁ waits (st .waiting) dx′ keys′ waits′ n → BoundOutside mem above dx′ out
+      → OpenedUp mem above true dx keys₁ waits (st .waiting) dx′ keys′ waits′ n → BoundOutside mem above dx′ out
       → Climbs dx′ keys′ waits′ (record { best = st .best; part = above; out = out; waiting = n; ended = false })
   climb-goes {keyed} {keys₁} {dx′} {keys′} {waits′} {n} {out} less isKeyed isKeys opened bound = (
     record {
@@ -116,7 +116,7 @@ module _ (mem : List ℕ) (k : ℕ) (dx keys waits : List ℕ) (st : Search) (fe
     },
     λ m fleet x marks g hx s near. (
       λ e. climbed g x hx s above (above-is ∙ parent-read g (st .part) (s .is-part)) (λ root. omega (arith, root, less))
-          (subst (λ (l : List ℕ). OpenedUp mem above dx l waits (st .waiting) dx′ keys′ waits′ n) keys-are opened)
+          (subst (λ (l : List ℕ). OpenedUp mem above true dx l waits (st .waiting) dx′ keys′ waits′ n) keys-are opened)
           bound,
       λ e. absurd (true≢false (sym e)),
     ),
@@ -146,7 +146,7 @@ module _ (mem : List ℕ) (k : ℕ) (dx keys marks waits : List ℕ) (st : Searc
       child-is : child ≡ partWord mem (word waits at) 4
       child-is = isChild ∙ ap (λ (p : ℕ). partWord mem p 4) (isWide ∙ isPart)
 
-      pub leaf-goes : {dx′ marks′ : List ℕ} {best′ : BestList} → child ≡ 0 → LeafTaken mem q dx marks (st .best) k dx′ marks′ best′
+      pub leaf-goes : {dx′ marks′ : List ℕ} {best′ : BestList} → child ≡ 0 → LeafTaken mem q false dx marks (st .best) k dx′ marks′ best′
           → Goes dx′ keys marks′ waits₁ (record { best = best′; part = st .part; out = st .out; waiting = st .waiting - 1; ended = false })
       leaf-goes {dx′} {marks′} {best′} none taken = (
         record {
@@ -161,8 +161,8 @@ module _ (mem : List ℕ) (k : ℕ) (dx keys marks waits : List ℕ) (st : Searc
         ),
       )
         where
-          look : LeafTaken mem (word waits at) dx marks (st .best) k dx′ marks′ best′
-          look = subst (λ (p : ℕ). LeafTaken mem p dx marks (st .best) k dx′ marks′ best′) isPart taken
+          look : LeafTaken mem (word waits at) false dx marks (st .best) k dx′ marks′ best′
+          look = subst (λ (p : ℕ). LeafTaken mem p false dx marks (st .best) k dx′ marks′ best′) isPart taken
 
           leaf-searching : (m : Map) (fleet : State) (x : ℕ) → Genuine m fleet mem → x < m .vertices
               → Searching m fleet x k dx keys marks waits (st .part) (st .out) (st .waiting) (listIn mem (st .best))
@@ -184,7 +184,7 @@ module _ (mem : List ℕ) (k : ℕ) (dx keys marks waits : List ℕ) (st : Searc
                   (subst⁻¹ (λ (ds : List ℕ). Searching m fleet x k ds keys marks (fewer waits at (st .waiting) h fits) (st .part) (st .out) (st .waiting - 1) (listIn mem (st .best))) same-dx
                   (leaf-again g x hx k some s at h fits leaf marked)))
 
-      pub part-goes : {dx′ keys′ waits′ : List ℕ} {n′ : ℕ} → child ≢ 0 → OpenedUp mem q dx keys waits₁ (st .waiting - 1) dx′ keys′ waits′ n′
+      pub part-goes : {dx′ keys′ waits′ : List ℕ} {n′ : ℕ} → child ≢ 0 → OpenedUp mem q false dx keys waits₁ (st .waiting - 1) dx′ keys′ waits′ n′
           → Goes dx′ keys′ marks waits′ (record { best = st .best; part = st .part; out = st .out; waiting = n′; ended = false })
       part-goes {dx′} {keys′} {waits′} {n′} real opened = (
         record {
@@ -197,8 +197,8 @@ module _ (mem : List ℕ) (k : ℕ) (dx keys marks waits : List ℕ) (st : Searc
           λ e.
               part-taken g x hx s at h fits
               (some-first-child m (word waits at) (λ zero′. real (child-is ∙ child-read g (word waits at) (s .waiting at h .is-part) ∙ zero′)))
-              (subst (λ (p : ℕ). OpenedUp mem p dx keys (fewer waits at (st .waiting) h fits) (st .waiting - 1) dx′ keys′ waits′ n′) isPart
-              (subst (λ (ws : List ℕ). OpenedUp mem q dx keys ws (st .waiting - 1) dx′ keys′ waits′ n′) isWaits opened)),
+              (subst (λ (p : ℕ). OpenedUp mem p false dx keys (fewer waits at (st .waiting) h fits) (st .waiting - 1) dx′ keys′ waits′ n′) isPart
+              (subst (λ (ws : List ℕ). OpenedUp mem q false dx keys ws (st .waiting - 1) dx′ keys′ waits′ n′) isWaits opened)),
           λ e. absurd (true≢false (sym e)),
         ),
       )
@@ -253,7 +253,7 @@ pub record Begun (k : ℕ) (keys waits : List ℕ) (best : BestList) : Type 0 wh
 
 module _ (mem : List ℕ) (x k : ℕ) (dx keys marks waits : List ℕ) (fresh : Fresh dx keys marks waits) {counts : Counts} {leaf at : ℕ} {dx₁ dx′ marks′ keys′ : List ℕ} {empty best : BestList} {keyed : ℕ}
     (isCounts : counts ≡ countsIn mem) (isLeaf′ : leaf ≡ word mem (vertexAt counts x + 0)) (isAt : at ≡ x) (isStart : dx₁ ≡ set dx at 0) (isEmpty : empty .len ≡ 0)
-    (taken : LeafTaken mem leaf dx₁ marks empty k dx′ marks′ best) (isKeyed : keyed ≡ leaf) (isKeys : keys′ ≡ lowered keys keyed 0) where
+    (taken : LeafTaken mem leaf true dx₁ marks empty k dx′ marks′ best) (isKeyed : keyed ≡ leaf) (isKeys : keys′ ≡ lowered keys keyed 0) where
   pub begun : Begun k keys′ waits best
   begun =
       record {
@@ -274,7 +274,7 @@ module _ (mem : List ℕ) (x k : ℕ) (dx keys marks waits : List ℕ) (fresh : 
       none : listIn mem empty ≡ []
       none = nothing (stampIn mem (countsIn mem)) (empty .fars) (empty .vans) (empty .len) isEmpty
 
-      look : FirstLook mem leaf dx₁ marks [] k dx′ marks′ (listIn mem best)
+      look : FirstLook mem leaf true dx₁ marks [] k dx′ marks′ (listIn mem best)
       look =
           let (relaxed, isMarks, found) = taken .first (λ e. omega (arith, e, fresh .no-mark leaf)) in
           record {

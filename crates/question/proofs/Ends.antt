@@ -39,8 +39,9 @@ use Rattle.far_sums.specs.Least.{Least}
 use Rattle.part_bounds.specs.Bounds.{partWord, rowsIn, lowered, keyAt}
 use Rattle.part_bounds.proofs.Lowering.{lowered-length, lowered-found}
 use Rattle.question.specs.Kept.{Genuine, Relaxed, BoundOutside, Coming, Covered, Waits, Searching, vanLeaf, isOffered}
-use Rattle.question.proofs.Exact.{still-honest, exact-out, exact-own}
-use Rattle.question.proofs.Heading.{heads-if, head-below, van-below}
+use Rattle.question.proofs.Shown.{active-shown}
+use Rattle.question.proofs.Exact.{still-honest, exact-out, known-out, exact-own, known-own}
+use Rattle.question.proofs.Heading.{head-below, head-active}
 use Rattle.question.proofs.Leaves.{comers, Comer, comer-says, comer-near, comer-leaf, leaf-best}
 use Rattle.question.proofs.Turns.{fewer, still-waited, covered-without, bound-outside, closer-waits, holding-part}
 
@@ -54,8 +55,8 @@ keep-none test [] out = refl
 keep-none test (l ∷ all) out = rw (out l) (keep-none test all out)
 
 -- what a leaf that was looked at for the first time leaves
-pub record FirstLook (mem : List ℕ) (leaf : ℕ) (dx marks : List ℕ) (found : List Listed) (k : ℕ) (dx′ marks′ : List ℕ) (found′ : List Listed) : Type 0 where
-  pub relaxed : Relaxed mem leaf dx dx′
+pub record FirstLook (mem : List ℕ) (leaf : ℕ) (all : Bool) (dx marks : List ℕ) (found : List Listed) (k : ℕ) (dx′ marks′ : List ℕ) (found′ : List Listed) : Type 0 where
+  pub relaxed : Relaxed mem leaf all dx dx′
   pub marks-are : marks′ ≡ set marks leaf 1
   pub found-are : found′ ≡ offeredAll k found (leafOffers mem (countsIn mem) (partWord mem leaf 2) dx′ (rowsIn mem leaf) 0)
 
@@ -77,15 +78,15 @@ module _ {m : Map} {s : State} {mem : List ℕ} (g : Genuine m s mem) (x : ℕ) 
   marks-new : (marks : List ℕ) (q : ℕ) → q < partCount m → length marks ≡ 512 → word (set marks q 1) q ≡ 1
   marks-new marks q hq long = getD-set-same marks q 1 0 (omega (arith, long, g .sound .parts))
 
-  -- the list after a first look, where the leaf's vertices have their distances
-  looked : (q : ℕ) → q < partCount m → isLeaf m q ≡ true → (dx marks dx′ marks′ : List ℕ) (found found′ : List Listed) → length marks ≡ 512 → word marks q ≢ 1
-      → FirstLook mem q dx marks found k dx′ marks′ found′ → ((v : ℕ) → v < m .vertices → dist m v x ≤ word dx′ v)
-      → ((r : ℕ) → List·Memᴰ r (rowVertices m q) → word dx′ r ≤ dist m r x) → found ≡ take k (sorted (keep (isOffered m s marks) (comingFrom m x 0 (s .vans))))
+  -- the list after a first look, where the leaf's active vertices have their distances
+  looked : (q : ℕ) → q < partCount m → isLeaf m q ≡ true → (all : Bool) (dx marks dx′ marks′ : List ℕ) (found found′ : List Listed) → length marks ≡ 512 → word marks q ≢ 1
+      → FirstLook mem q all dx marks found k dx′ marks′ found′ → ((v : ℕ) → v < m .vertices → dist m v x ≤ word dx′ v)
+      → ((r : ℕ) → List·Memᴰ r (rowVertices m q) → active m s r ≡ true → word dx′ r ≤ dist m r x) → found ≡ take k (sorted (keep (isOffered m s marks) (comingFrom m x 0 (s .vans))))
       → found′ ≡ take k (sorted (keep (isOffered m s (set marks q 1)) (comingFrom m x 0 (s .vans))))
-  looked q hq leaf dx marks dx′ marks′ found found′ long fresh look honest exact list =
+  looked q hq leaf all dx marks dx′ marks′ found found′ long fresh look honest exact list =
       look .found-are
       ∙ ap (λ (l : List Listed). offeredAll k l (leafOffers mem (countsIn mem) (partWord mem q 2) dx′ (rowsIn mem q) 0)) list
-      ∙ leaf-best g x q hq leaf dx′ (λ r hr. omega (arith, honest r (row-vertex m q r hr), exact r hr)) k some marks long fresh
+      ∙ leaf-best g x q hq leaf dx′ (λ r hr act. omega (arith, honest r (row-vertex m q r hr), exact r hr act)) k some marks long fresh
 
   module _ {dx keys marks waits : List ℕ} {part out n : ℕ} {found : List Listed} (st : Searching m s x k dx keys marks waits part out n found) where
     -- A waiting leaf is taken.
@@ -118,6 +119,7 @@ module _ {m : Map} {s : State} {mem : List ℕ} (g : Genuine m s mem) (x : ℕ) 
             keys-length = st .keys-length;
             marks-length = st .marks-length;
             honest = st .honest;
+            known = st .known;
             is-part = st .is-part;
             holds-x = st .holds-x;
             root-out = st .root-out;
@@ -129,7 +131,7 @@ module _ {m : Map} {s : State} {mem : List ℕ} (g : Genuine m s mem) (x : ℕ) 
             list = st .list;
           }
 
-      pub leaf-taken : {dx′ marks′ : List ℕ} {found′ : List Listed} → word marks (word waits at) ≢ 1 → FirstLook mem (word waits at) dx marks found k dx′ marks′ found′
+      pub leaf-taken : {dx′ marks′ : List ℕ} {found′ : List Listed} → word marks (word waits at) ≢ 1 → FirstLook mem (word waits at) false dx marks found k dx′ marks′ found′
           → Searching m s x k dx′ keys marks′ (fewer waits at n h fits) part out (n - 1) found′
       unfolding q
       leaf-taken {dx′} {marks′} {found′} fresh look =
@@ -138,6 +140,7 @@ module _ {m : Map} {s : State} {mem : List ℕ} (g : Genuine m s mem) (x : ℕ) 
             keys-length = st .keys-length;
             marks-length = length-of;
             honest = honest;
+            known = known-out g q (w .is-part) (look .relaxed) x hx (st .known) (w .apart) (w .gates) refl;
             is-part = st .is-part;
             holds-x = st .holds-x;
             root-out = st .root-out;
@@ -146,7 +149,7 @@ module _ {m : Map} {s : State} {mem : List ℕ} (g : Genuine m s mem) (x : ℕ) 
             waiting = λ t ht. closer-waits g x hx (look .relaxed .no-more) (waiting-less t ht);
             inside = λ v comes inside. covers part v (st .inside v comes inside);
             keyed = λ p key v comes inside. covers p v (st .keyed p key v comes inside);
-            list = looked q (w .is-part) leaf dx marks dx′ marks′ found found′ (st .marks-length) fresh look honest exact (st .list);
+            list = looked q (w .is-part) leaf false dx marks dx′ marks′ found found′ (st .marks-length) fresh look honest exact (st .list);
           })
         where
           length-of : length (set marks q 1) ≡ 512
@@ -155,8 +158,8 @@ module _ {m : Map} {s : State} {mem : List ℕ} (g : Genuine m s mem) (x : ℕ) 
           honest : (v : ℕ) → v < m .vertices → dist m v x ≤ word dx′ v
           honest = still-honest g q (w .is-part) (look .relaxed) x hx (st .honest)
 
-          exact : (r : ℕ) → List·Memᴰ r (rowVertices m q) → word dx′ r ≤ dist m r x
-          exact = exact-out g q (w .is-part) (look .relaxed) x hx (w .apart) (w .gates)
+          exact : (r : ℕ) → List·Memᴰ r (rowVertices m q) → active m s r ≡ true → word dx′ r ≤ dist m r x
+          exact r hr act = exact-out g q (w .is-part) (look .relaxed) x hx (st .known) (w .apart) (w .gates) r hr (active-shown g q (w .is-part) leaf r act)
 
           covers : (low v : ℕ) → Covered m marks waits n low v → Covered m (set marks q 1) (fewer waits at n h fits) (n - 1) low v
           covers low v c = still (set marks q 1) (λ p e. marks-keep marks q p (w .is-part) (st .marks-length) e) (marks-new marks q (w .is-part) (st .marks-length)) low v c
@@ -167,10 +170,7 @@ module _ {m : Map} {s : State} {mem : List ℕ} (g : Genuine m s mem) (x : ℕ) 
     comer-comes l c = (
       record {
         vertex = head-below g (c .place) (c .van) (c .there);
-        is-active =
-            any-by (headsFor m (headOf m (c .van))) (s .vans) (slotOf s (c .place))
-            (entry-in (s .vans) (c .place) absent (omega (arith, van-below g (c .place) (c .van) (c .there), g .good .slots)))
-            (ap (headsFor m (headOf m (c .van))) (c .there) ∙ heads-if m (c .van) (c .free));
+        is-active = head-active g (c .place) (c .van) (c .there) (c .free);
         reaches = c .reaches;
       },
       omega (arith, ap (λ (a : Listed). a .distance) (c .same)),
@@ -209,7 +209,7 @@ module _ {m : Map} {s : State} {mem : List ℕ} (g : Genuine m s mem) (x : ℕ) 
   -- The start: the leaf of x.
   module _ (dx₀ keys marks waits : List ℕ) {dx keys₁ dx′ marks′ : List ℕ} {out : ℕ} {found′ : List Listed} (far : (v : ℕ) → v < 4096 → word dx₀ v ≡ FAR) (long : length dx₀ ≡ 4096) (isStart : dx ≡ set dx₀ x 0)
       (no-keys : (q : ℕ) → q < 512 → word keys q ≡ FAR) (keys-long : length keys ≡ 512) (no-marks : (q : ℕ) → word marks q ≡ 0) (marks-long : length marks ≡ 512)
-      (leaf : ℕ) (isLeaf′ : leaf ≡ leafOf m x) (look : FirstLook mem leaf dx marks [] k dx′ marks′ found′) (isKeys : keys₁ ≡ lowered keys leaf 0) (bound : BoundOutside mem leaf dx′ out) where
+      (leaf : ℕ) (isLeaf′ : leaf ≡ leafOf m x) (look : FirstLook mem leaf true dx marks [] k dx′ marks′ found′) (isKeys : keys₁ ≡ lowered keys leaf 0) (bound : BoundOutside mem leaf dx′ out) where
     hl : leaf < partCount m
     hl = omega (arith, isLeaf′, tree .leaf-part x hx)
 
@@ -233,11 +233,18 @@ module _ {m : Map} {s : State} {mem : List ℕ} (g : Genuine m s mem) (x : ℕ) 
               )
         ]
 
+    known : (v : ℕ) → v < m .vertices → word dx v < FAR → word dx v ≤ dist m v x
+    known v hv some =
+        elim (ℕ-discrete v x) [
+          | yes same ↦ omega (arith, ap (word dx) same, start-at)
+          | no other ↦ absurd (omega (arith, some, ap (λ (l : List ℕ). word l v) isStart, getD-set-other dx₀ x v 0 0 other, far v (omega (arith, hv, g .sound .vertices))))
+        ]
+
     honest′ : (v : ℕ) → v < m .vertices → dist m v x ≤ word dx′ v
     honest′ = still-honest g leaf hl (look .relaxed) x hx honest
 
     exact : (r : ℕ) → List·Memᴰ r (rowVertices m leaf) → word dx′ r ≤ dist m r x
-    exact = exact-own g leaf hl (look .relaxed) x hx is-leaf (sym isLeaf′) (omega (arith, start-at))
+    exact = exact-own g leaf hl (look .relaxed) x hx known refl is-leaf (sym isLeaf′) (omega (arith, start-at))
 
     gates : (b : ℕ) → boundary m leaf b ≡ true → word dx′ b ≤ dist m b x
     gates b e = exact b (boundary-row m net tree leaf b e)
@@ -267,6 +274,7 @@ module _ {m : Map} {s : State} {mem : List ℕ} (g : Genuine m s mem) (x : ℕ) 
           keys-length = ap length isKeys ∙ lowered-length keys leaf 0 ∙ keys-long;
           marks-length = length-set marks leaf 1 ∙ marks-long;
           honest = honest′;
+          known = known-own g leaf hl (look .relaxed) x hx known refl is-leaf (sym isLeaf′) (omega (arith, start-at));
           is-part = hl;
           holds-x = holds-x;
           root-out = bound .root;
@@ -275,5 +283,5 @@ module _ {m : Map} {s : State} {mem : List ℕ} (g : Genuine m s mem) (x : ℕ) 
           waiting = λ t h. absurd (omega arith);
           inside = λ v comes inside. covered leaf v inside;
           keyed = keyed;
-          list = looked leaf hl is-leaf dx marks dx′ marks′ [] found′ marks-long (λ e. omega (arith, e, no-marks leaf)) look honest′ exact none-offered;
+          list = looked leaf hl is-leaf true dx marks dx′ marks′ [] found′ marks-long (λ e. omega (arith, e, no-marks leaf)) look honest′ (λ r hr act. exact r hr) none-offered;
         })

@@ -14,7 +14,7 @@ use lib.Dec.{eqb, ltb}
 use borrow.Author.Tests.{eqb-true, eq-eqb, ne-eqb, ltb-true, lt-ltb, le-ltb}
 use Rattle.words.specs.Limits.{FAR, mostAsked}
 use Rattle.words.specs.Lists.{word, placeIn, keep}
-use Rattle.words.proofs.Tests.{both-true, both-pass}
+use Rattle.words.proofs.Tests.{true-or-false, both-true, both-pass}
 use Rattle.words.proofs.Places.{place-of-entry}
 use Rattle.roads.specs.Map.{Map, partCount}
 use Rattle.roads.specs.Dist.{dist}
@@ -23,7 +23,7 @@ use Rattle.parts.specs.Size.{rowVertices, sizeOf}
 use Rattle.parts.proofs.Rows.{rows-unique}
 use Rattle.parts.proofs.Down.{vertices-has}
 use Rattle.parts.proofs.Gates.{rows-leaf, vertices-says}
-use Rattle.fleet.specs.State.{Van, Slot, absent, present, State, slotOf, headOf}
+use Rattle.fleet.specs.State.{Van, Slot, absent, present, State, slotOf, headOf, active}
 use Rattle.fleet.specs.Question.{Listed, canCome, comingFrom, sorted}
 use Rattle.fleet.proofs.Sorted.{Distinct, none, more}
 use Rattle.fleet.proofs.Coming.{entry, Comes, coming-says, coming-has, coming-distinct}
@@ -35,7 +35,7 @@ use Rattle.van_offers.specs.Offers.{vanOffers, rowOwner, vertexOffers, leafOffe
 use Rattle.part_bounds.specs.Bounds.{partWord, rowsIn}
 use Rattle.question.specs.Kept.{Genuine, vanLeaf, isOffered}
 use Rattle.question.proofs.Shown.{rows-read, owner-read, row-below, row-in, place-read}
-use Rattle.question.proofs.Heading.{Heads, offers-say, offers-have, offers-distinct, head-below, comes-near}
+use Rattle.question.proofs.Heading.{Heads, offers-say, offers-have, offers-distinct, head-below, head-active, idle-link, comes-near}
 
 distinct-append : {a b : List Listed} → Distinct a → Distinct b → ((x y : Listed) → List·Memᴰ x a → List·Memᴰ y b → x .van ≢ y .van) → Distinct (a ++ b)
 distinct-append none db apart = db
@@ -45,6 +45,12 @@ distinct-append {b = b} (more {a = x} {bs = xs} differ rest) db apart =
     (distinct-append rest db (λ p q hp hq. apart p q (List·Memᴰ·tail hp) hq))
 
 module _ {m : Map} {s : State} {mem : List ℕ} (g : Genuine m s mem) (x : ℕ) where
+  -- a list of vans that starts at no link
+  nothing-offered : (near-enough : Bool) (near : ℕ) → cond near-enough (vanOffers mem (countsIn mem) near 1024 0) [] ≡ []
+  unfolding vanOffers
+  nothing-offered true near = refl
+  nothing-offered false near = refl
+
   abbrev pub comers : List Listed
   comers = comingFrom m x 0 (s .vans)
 
@@ -90,8 +96,9 @@ module _ {m : Map} {s : State} {mem : List ℕ} (g : Genuine m s mem) (x : ℕ) 
   pub comer-leaf : (l : Listed) (c : Comer l) → vanLeaf m (slotOf s (l .van)) ≡ leafOf m (headOf m (c .van))
   comer-leaf l c = ap (λ (i : ℕ). vanLeaf m (slotOf s i)) (ap (λ (a : Listed). a .van) (c .same)) ∙ ap (vanLeaf m) (c .there)
 
-  -- The offers of leaf q, whose vertices have their distances.
-  module _ (q : ℕ) (hq : q < partCount m) (leaf : isLeaf m q ≡ true) (dx : List ℕ) (exact : (r : ℕ) → List·Memᴰ r (rowVertices m q) → word dx r ≡ dist m r x) where
+  -- The offers of leaf q, whose active vertices have their distances.
+  module _ (q : ℕ) (hq : q < partCount m) (leaf : isLeaf m q ≡ true) (dx : List ℕ)
+      (exact : (r : ℕ) → List·Memᴰ r (rowVertices m q) → active m s r ≡ true → word dx r ≡ dist m r x) where
     abbrev first : ℕ
     first = partWord mem q 2
 
@@ -110,56 +117,75 @@ module _ {m : Map} {s : State} {mem : List ℕ} (g : Genuine m s mem) (x : ℕ) 
       v : ℕ
       v = rowVertex m q i
 
-      near-is : word dx (rowOwner mem first i) ≡ dist m v x
-      unfolding v
-      near-is = ap (word dx) (owner-read g q hq i hi) ∙ exact (rowVertex m q i) (row-in g q hq i hi)
-
       rowOffers : List Listed
       rowOffers = vertexOffers mem (countsIn mem) (rowOwner mem first i) (word dx (rowOwner mem first i))
 
       abbrev chainOf : ℕ → ℕ → List Listed
       chainOf near u = vanOffers mem (countsIn mem) near 1024 (word mem (vertexAt (countsIn mem) u + 4))
 
-      row-near : dist m v x < FAR → rowOffers ≡ chainOf (dist m v x) v
+      -- nobody heads for a vertex that is not active
+      row-idle : active m s v ≡ false → rowOffers ≡ []
       unfolding rowOffers vertexOffers v
-      row-near reaches =
-          rw (lt-ltb (word dx (rowOwner mem first i)) FAR (omega (arith, near-is)))
-          (λ j. chainOf (near-is j) (owner-read g q hq i hi j))
+      row-idle idle =
+          let none : word mem (vertexAt (countsIn mem) (rowOwner mem first i) + 4) ≡ 0 =
+          ap (λ (u : ℕ). word mem (vertexAt (countsIn mem) u + 4)) (owner-read g q hq i hi) ∙ idle-link g (rowVertex m q i) (row-below g q hq i hi) idle in
+          ap (λ (k : ℕ). cond (ltb (word dx (rowOwner mem first i)) FAR) (vanOffers mem (countsIn mem) (word dx (rowOwner mem first i)) 1024 k) []) none
+          ∙ nothing-offered (ltb (word dx (rowOwner mem first i)) FAR) (word dx (rowOwner mem first i))
 
-      row-far : FAR ≤ dist m v x → rowOffers ≡ []
-      unfolding rowOffers vertexOffers
-      row-far far = rw (le-ltb (word dx (rowOwner mem first i)) FAR (omega (arith, near-is)))
+      module _ (act : active m s v ≡ true) where
+        near-is : word dx (rowOwner mem first i) ≡ dist m v x
+        unfolding v
+        near-is = ap (word dx) (owner-read g q hq i hi) ∙ exact (rowVertex m q i) (row-in g q hq i hi) act
+
+        row-near : dist m v x < FAR → rowOffers ≡ chainOf (dist m v x) v
+        unfolding rowOffers vertexOffers v
+        row-near reaches =
+            rw (lt-ltb (word dx (rowOwner mem first i)) FAR (omega (arith, near-is)))
+            (λ j. chainOf (near-is j) (owner-read g q hq i hi j))
+
+        row-far : FAR ≤ dist m v x → rowOffers ≡ []
+        unfolding rowOffers vertexOffers
+        row-far far = rw (le-ltb (word dx (rowOwner mem first i)) FAR (omega (arith, near-is)))
+
+      -- nothing is offered, or what heads for an active vertex that reaches x
+      cases : (rowOffers ≡ []) ⊎ ((dist m v x < FAR) × (rowOffers ≡ chainOf (dist m v x) v))
+      cases = by (true-or-false (active m s v)) (decLt (dist m v x) FAR)
+        where
+          by : (active m s v ≡ true) ⊎ (active m s v ≡ false) → Dec (dist m v x < FAR) → (rowOffers ≡ []) ⊎ ((dist m v x < FAR) × (rowOffers ≡ chainOf (dist m v x) v))
+          by (inr idle) d = inl (row-idle idle)
+          by (inl act) (no far) = inl (row-far act (omega (arith, far)))
+          by (inl act) (yes reaches) = inr (reaches, row-near act reaches)
 
       row-says : (e : Listed) → List·Memᴰ e rowOffers → FromRow e i (suc i)
       unfolding v
-      row-says e h = by (decLt (dist m v x) FAR)
-        where
-          by : Dec (dist m v x < FAR) → FromRow e i (suc i)
-          by (no far) = absurd (List·Memᴰ·not-nil (subst (List·Memᴰ e) (row-far (omega (arith, far))) h))
-          by (yes reaches) =
-              let c = offers-say g x v (dist m v x) reaches refl (row-below g q hq i hi) e (subst (List·Memᴰ e) (row-near reaches) h) in
-              record {
-                row = i;
-                from = omega arith;
-                below = omega arith;
-                comer = record { place = c .place; van = c .van; there = c .there; free = c .free; reaches = omega (arith, reaches, ap (λ (k : ℕ). dist m k x) (c .heads)); same = c .same };
-                heads = c .heads;
-              }
+      row-says e h =
+          ⊎-elim
+          (λ nobody. absurd (List·Memᴰ·not-nil (subst (List·Memᴰ e) nobody h)))
+          (λ (reaches, is).
+          let c = offers-say g x v (dist m v x) reaches refl (row-below g q hq i hi) e (subst (List·Memᴰ e) is h) in
+          record {
+            row = i;
+            from = omega arith;
+            below = omega arith;
+            comer = record { place = c .place; van = c .van; there = c .there; free = c .free; reaches = omega (arith, reaches, ap (λ (k : ℕ). dist m k x) (c .heads)); same = c .same };
+            heads = c .heads;
+          })
+          cases
 
       row-has : (e : Listed) (c : Comer e) → headOf m (c .van) ≡ v → List·Memᴰ e rowOffers
       unfolding v
       row-has e c heads =
           let reaches : dist m v x < FAR = omega (arith, c .reaches, ap (λ (k : ℕ). dist m k x) heads) in
-          subst⁻¹ (List·Memᴰ e) (row-near reaches)
+          subst⁻¹ (List·Memᴰ e) (row-near (ap (active m s) (sym heads) ∙ head-active g (c .place) (c .van) (c .there) (c .free)) reaches)
           (Memᴰ·cast (c .same) (offers-have g x v (dist m v x) reaches refl (row-below g q hq i hi) (c .place) (c .van) (c .there) (c .free) heads))
 
       row-distinct : Distinct rowOffers
       unfolding v
-      row-distinct = by (decLt (dist m v x) FAR)
-        where
-          by : Dec (dist m v x < FAR) → Distinct rowOffers
-          by (no far) = subst⁻¹ Distinct (row-far (omega (arith, far))) none
-          by (yes reaches) = subst⁻¹ Distinct (row-near reaches) (offers-distinct g x v (dist m v x) reaches refl (row-below g q hq i hi))
+      row-distinct =
+          ⊎-elim
+          (λ nobody. subst⁻¹ Distinct nobody none)
+          (λ (reaches, is). subst⁻¹ Distinct is (offers-distinct g x v (dist m v x) reaches refl (row-below g q hq i hi)))
+          cases
 
     all-say : (n i : ℕ) → i + n ≤ sizeOf m q → (e : Listed) → List·Memᴰ e (offersFrom n i) → FromRow e i (i + n)
     unfolding leafOffers rowOffers

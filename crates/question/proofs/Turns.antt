@@ -30,11 +30,11 @@ use Rattle.fleet.specs.State.{State, active}
 use Rattle.fleet.specs.Question.{Listed, comingFrom, sorted}
 use Rattle.image.specs.Records.{rowVertex}
 use Rattle.far_sums.specs.Least.{Least}
-use Rattle.part_bounds.specs.Bounds.{partWord, rowsIn, ownerAt, childAt, nearAt, keyOf, outOf, lowered, Spread}
+use Rattle.part_bounds.specs.Bounds.{partWord, rowsIn, ownerAt, childAt, belowAt, nearAt, keyOf, outOf, lowered, Spread}
 use Rattle.part_bounds.proofs.Lowering.{lowered-no-more, lowered-here, lowered-found, lowered-length}
 use Rattle.question.specs.Kept.{Genuine, Relaxed, OpenedUp, BoundOutside, Coming, Covered, Waits, Searching, isOffered}
 use Rattle.question.proofs.Shown.{parent-read, rows-read, owner-read, child-at-read, below-read, place-read, row-in, child-of-border}
-use Rattle.question.proofs.Exact.{still-honest, exact-out, exact-in}
+use Rattle.question.proofs.Exact.{still-honest, exact-out, known-out, exact-in, known-in}
 
 -- A part is given up: the last of those that wait takes its place.
 module _ (waits : List ℕ) (at n : ℕ) (h : at < n) (fits : n ≤ length waits) where
@@ -139,10 +139,16 @@ module _ {m : Map} {s : State} {mem : List ℕ} (g : Genuine m s mem) (x : ℕ) 
   -- A part p with children was opened up, and its rows have their distances. The child that holds x, if any, has a key already.
   module _ (p : ℕ) (hp : p < partCount m) (inner : isLeaf m p ≡ false) (dx keys waits : List ℕ) (n : ℕ) {keys′ waits′ : List ℕ} {n′ : ℕ}
       (spread : Spread mem (partWord mem p 2) dx (rowsIn mem p) keys waits n keys′ waits′ n′)
-      (exact : (r : ℕ) → List·Memᴰ r (rowVertices m p) → word dx r ≤ dist m r x)
+      (exact : (r : ℕ) → List·Memᴰ r (rowVertices m p) → ((i : ℕ) → i < sizeOf m p → rowVertex m p i ≡ r → belowAt mem (partWord mem p 2) i < FAR) → word dx r ≤ dist m r x)
       (own : (c : ℕ) → List·Memᴰ c (children m p) → holds m c x ≡ true → word keys c < FAR) where
-    border-exact : (c b : ℕ) → List·Memᴰ c (children m p) → boundary m c b ≡ true → word dx b ≤ dist m b x
-    border-exact c b hc e = exact b (subst⁻¹ (List·Memᴰ b) (rows-inner m p inner) (boundary-border m net tree p c b hc e))
+    border-exact : (c b : ℕ) → List·Memᴰ c (children m p) → boundary m c b ≡ true → rowOf m (active m s) c b .distance < FAR → word dx b ≤ dist m b x
+    border-exact c b hc e near = exact b (subst⁻¹ (List·Memᴰ b) (rows-inner m p inner) (boundary-border m net tree p c b hc e)) below
+      where
+        below : (i : ℕ) → i < sizeOf m p → rowVertex m p i ≡ b → belowAt mem (partWord mem p 2) i < FAR
+        below i hi same =
+            let in-c = boundary-inside m c b e in
+            let child : childOf m p (rowVertex m p i) ≡ c = ap (childOf m p) same ∙ child-found m net tree p c b (holds-says m c b in-c .0) hc in-c in
+            omega (arith, near, below-read g p hp inner i hi, ap (λ (k : ℕ). rowOf m (active m s) k (rowVertex m p i) .distance) child, ap (λ (k : ℕ). rowOf m (active m s) c k .distance) same)
 
     -- the key of a child is a bound
     child-bound : (c : ℕ) → List·Memᴰ c (children m p) → holds m c x ≡ false → (v : ℕ) → Coming m s x v → holds m c v ≡ true → word keys′ c ≤ dist m v x
@@ -163,7 +169,7 @@ module _ {m : Map} {s : State} {mem : List ℕ} (g : Genuine m s mem) (x : ℕ) 
           ap (λ (k : ℕ). rowOf m (active m s) k (rowVertex m p i) .distance) child,
           ap (λ (k : ℕ). rowOf m (active m s) c k .distance) same,
           ap (word dx) (owner-read g p hp i hi ∙ same),
-          border-exact c b hc (gate .is-boundary),
+          border-exact c b hc (gate .is-boundary) (omega (arith, gate .bounds, comes .reaches)),
           gate .bounds,
         )
 
@@ -185,7 +191,7 @@ module _ {m : Map} {s : State} {mem : List ℕ} (g : Genuine m s mem) (x : ℕ) 
         (record {
           is-part = children-says m p c (child .0) .0;
           apart = apart;
-          gates = λ d h. border-exact c d (child .0) h;
+          gates = λ d h near. border-exact c d (child .0) h near;
           bound = λ v comes inside. child-bound c (child .0) apart v comes inside;
         })
 
@@ -226,12 +232,12 @@ module _ {m : Map} {s : State} {mem : List ℕ} (g : Genuine m s mem) (x : ℕ) 
   -- distances that were made less are still no farther
   pub closer-waits : {dx dx′ : List ℕ} {q key : ℕ} → ((u : ℕ) → word dx′ u ≤ word dx u) → Waits m s x dx q key → Waits m s x dx′ q key
   closer-waits less w =
-      record { is-part = w .is-part; apart = w .apart; gates = λ b e. omega (arith, less b, w .gates b e); bound = w .bound }
+      record { is-part = w .is-part; apart = w .apart; gates = λ b e near. omega (arith, less b, w .gates b e near); bound = w .bound }
 
   -- A waiting part with children is taken.
   module _ {k : ℕ} {dx keys marks waits : List ℕ} {part out n : ℕ} {found : List Listed} (st : Searching m s x k dx keys marks waits part out n found) where
     module _ (at : ℕ) (h : at < n) (fits : n ≤ length waits) {dx′ keys′ waits′ : List ℕ} {n′ : ℕ} (inner : isLeaf m (word waits at) ≡ false)
-        (opened : OpenedUp mem (word waits at) dx keys (fewer waits at n h fits) (n - 1) dx′ keys′ waits′ n′) where
+        (opened : OpenedUp mem (word waits at) false dx keys (fewer waits at n h fits) (n - 1) dx′ keys′ waits′ n′) where
       q : ℕ
       q = word waits at
 
@@ -242,9 +248,9 @@ module _ {m : Map} {s : State} {mem : List ℕ} (g : Genuine m s mem) (x : ℕ) 
       less : (u : ℕ) → word dx′ u ≤ word dx u
       less = opened .0 .no-more
 
-      exact : (r : ℕ) → List·Memᴰ r (rowVertices m q) → word dx′ r ≤ dist m r x
+      exact : (r : ℕ) → List·Memᴰ r (rowVertices m q) → ((i : ℕ) → i < sizeOf m q → rowVertex m q i ≡ r → belowAt mem (partWord mem q 2) i < FAR) → word dx′ r ≤ dist m r x
       unfolding q
-      exact = exact-out g q (w .is-part) (opened .0) x hx (w .apart) (w .gates)
+      exact = exact-out g q (w .is-part) (opened .0) x hx (st .known) (w .apart) (w .gates)
 
       own : (c : ℕ) → List·Memᴰ c (children m q) → holds m c x ≡ true → word keys c < FAR
       own c hc held = absurd (true≢false (sym (child-held m net tree q c x hc held) ∙ w .apart))
@@ -273,6 +279,7 @@ module _ {m : Map} {s : State} {mem : List ℕ} (g : Genuine m s mem) (x : ℕ) 
             keys-length = opened .1 .keys-length ∙ st .keys-length;
             marks-length = st .marks-length;
             honest = still-honest g q (w .is-part) (opened .0) x hx (st .honest);
+            known = known-out g q (w .is-part) (opened .0) x hx (st .known) (w .apart) (w .gates) refl;
             is-part = st .is-part;
             holds-x = st .holds-x;
             root-out = st .root-out;
@@ -297,7 +304,7 @@ module _ {m : Map} {s : State} {mem : List ℕ} (g : Genuine m s mem) (x : ℕ) 
 
     -- The search climbs to the part above.
     module _ (above : ℕ) (is-above : above ≡ parentOf m part) (real : part ≢ 0) {dx′ keys′ waits′ : List ℕ} {n′ out′ : ℕ}
-        (opened : OpenedUp mem above dx (lowered keys part 0) waits n dx′ keys′ waits′ n′) (bound : BoundOutside mem above dx′ out′) where
+        (opened : OpenedUp mem above true dx (lowered keys part 0) waits n dx′ keys′ waits′ n′) (bound : BoundOutside mem above dx′ out′) where
       falls : above < part
       falls = omega (arith, is-above, g .sound .part part (st .is-part) .parent (omega (arith, real)))
 
@@ -314,7 +321,10 @@ module _ {m : Map} {s : State} {mem : List ℕ} (g : Genuine m s mem) (x : ℕ) 
       less-above = opened .0 .no-more
 
       exact-above : (r : ℕ) → List·Memᴰ r (rowVertices m above) → word dx′ r ≤ dist m r x
-      exact-above = exact-in g above ha (opened .0) x hx inner part child (st .holds-x) (st .gates)
+      exact-above = exact-in g above ha (opened .0) x hx (st .known) refl inner part child (st .holds-x) (st .gates)
+
+      exact-shown : (r : ℕ) → List·Memᴰ r (rowVertices m above) → ((i : ℕ) → i < sizeOf m above → rowVertex m above i ≡ r → belowAt mem (partWord mem above 2) i < FAR) → word dx′ r ≤ dist m r x
+      exact-shown r hr shown = exact-above r hr
 
       own-above : (c : ℕ) → List·Memᴰ c (children m above) → holds m c x ≡ true → word (lowered keys part 0) c < FAR
       own-above c hc held =
@@ -330,7 +340,7 @@ module _ {m : Map} {s : State} {mem : List ℕ} (g : Genuine m s mem) (x : ℕ) 
           (lowered-found keys part 0 FAR q key)
 
       still-above : (low v : ℕ) → Covered m marks waits n low v → Covered m marks waits′ n′ low v
-      still-above low v c = covered-still above ha inner dx′ (lowered keys part 0) waits n (opened .1) exact-above own-above marks low v c
+      still-above low v c = covered-still above ha inner dx′ (lowered keys part 0) waits n (opened .1) exact-shown own-above marks low v c
 
       holds-x′ : holds m above x ≡ true
       holds-x′ = child-held m net tree above part x child (st .holds-x)
@@ -344,15 +354,16 @@ module _ {m : Map} {s : State} {mem : List ℕ} (g : Genuine m s mem) (x : ℕ) 
             keys-length = opened .1 .keys-length ∙ lowered-length keys part 0 ∙ st .keys-length;
             marks-length = st .marks-length;
             honest = still-honest g above ha (opened .0) x hx (st .honest);
+            known = known-in g above ha (opened .0) x hx (st .known) refl inner part child (st .holds-x) (st .gates);
             is-part = ha;
             holds-x = holds-x′;
             root-out = bound .root;
             gates = gates′;
             outside = bound-outside above ha bound holds-x′ gates′;
             waiting = waiting;
-            inside = part-covered above ha inner dx′ (lowered keys part 0) waits n (opened .1) exact-above own-above marks (λ c hc after key v comes inside. still-above c v (old-keyed c key v comes inside));
+            inside = part-covered above ha inner dx′ (lowered keys part 0) waits n (opened .1) exact-shown own-above marks (λ c hc after key v comes inside. still-above c v (old-keyed c key v comes inside));
             keyed = λ q key v comes inside.
-                keyed-still above ha inner dx′ (lowered keys part 0) waits n (opened .1) exact-above own-above marks q v (λ old. still-above q v (old-keyed q old v comes inside)) key inside;
+                keyed-still above ha inner dx′ (lowered keys part 0) waits n (opened .1) exact-shown own-above marks q v (λ old. still-above q v (old-keyed q old v comes inside)) key inside;
             list = st .list;
           }
         where
@@ -363,6 +374,6 @@ module _ {m : Map} {s : State} {mem : List ℕ} (g : Genuine m s mem) (x : ℕ) 
           waiting : (t : ℕ) → t < n′ → Waits m s x dx′ (word waits′ t) (word keys′ (word waits′ t))
           waiting t ht =
               elim (decLt t n) [
-                | yes before ↦ old-waits above ha inner dx′ (lowered keys part 0) waits n (opened .1) exact-above own-above t before (lower-key (word waits t) (closer-waits less-above (st .waiting t before)))
-                | no after ↦ new-waits above ha inner dx′ (lowered keys part 0) waits n (opened .1) exact-above own-above t (omega (arith, after)) ht
+                | yes before ↦ old-waits above ha inner dx′ (lowered keys part 0) waits n (opened .1) exact-shown own-above t before (lower-key (word waits t) (closer-waits less-above (st .waiting t before)))
+                | no after ↦ new-waits above ha inner dx′ (lowered keys part 0) waits n (opened .1) exact-shown own-above t (omega (arith, after)) ht
               ]

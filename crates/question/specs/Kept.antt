@@ -14,6 +14,7 @@ use Rattle.roads.specs.Dist.{dist}
 use Rattle.parts.specs.Tree.{leafOf, holds}
 use Rattle.parts.specs.Border.{boundary}
 use Rattle.maps.specs.Sound.{Sound}
+use Rattle.rows.specs.Row.{rowOf}
 use Rattle.fleet.specs.State.{Slot, absent, present, State, slotOf, headOf, active}
 use Rattle.fleet.specs.Good.{Good}
 use Rattle.fleet.specs.Question.{Listed, listedWords, comingFrom, sorted, nearest}
@@ -38,20 +39,20 @@ listIn mem best = entries (stampIn mem (countsIn mem)) (best .fars) (best .vans)
 
 -- The functions of the search, on any words.
 
--- the distances of a part's rows were made less
-abbrev pub Relaxed : List ℕ → ℕ → List ℕ → List ℕ → Type 0
-Relaxed mem p dx dx′ = Closer mem (partWord mem p 2) (partWord mem p 3) (rowsIn mem p) dx (rowsIn mem p) dx′
+-- the distances of a part's rows were made less: of all, or of those below which something is shown
+abbrev pub Relaxed : List ℕ → ℕ → Bool → List ℕ → List ℕ → Type 0
+Relaxed mem p all dx dx′ = Closer mem (partWord mem p 2) (partWord mem p 3) (rowsIn mem p) all dx (rowsIn mem p) dx′
 
 -- a leaf was looked at: nothing changes the second time
-pub record LeafTaken (mem : List ℕ) (leaf : ℕ) (dx marks : List ℕ) (best : BestList) (k : ℕ) (dx′ marks′ : List ℕ) (best′ : BestList) : Type 0 where
+pub record LeafTaken (mem : List ℕ) (leaf : ℕ) (all : Bool) (dx marks : List ℕ) (best : BestList) (k : ℕ) (dx′ marks′ : List ℕ) (best′ : BestList) : Type 0 where
   pub few : best′ .len ≤ k
   pub again : word marks leaf ≡ 1 → (dx′ ≡ dx) × (marks′ ≡ marks) × (best′ ≡ best)
-  pub first : word marks leaf ≢ 1 → Relaxed mem leaf dx dx′ × (marks′ ≡ set marks leaf 1)
+  pub first : word marks leaf ≢ 1 → Relaxed mem leaf all dx dx′ × (marks′ ≡ set marks leaf 1)
       × (listIn mem best′ ≡ offeredAll k (listIn mem best) (leafOffers mem (countsIn mem) (partWord mem leaf 2) dx′ (rowsIn mem leaf) 0))
 
 -- a part was opened up
-abbrev pub OpenedUp : List ℕ → ℕ → List ℕ → List ℕ → List ℕ → ℕ → List ℕ → List ℕ → List ℕ → ℕ → Type 0
-OpenedUp mem p dx keys waits n dx′ keys′ waits′ n′ = Relaxed mem p dx dx′ × Spread mem (partWord mem p 2) dx′ (rowsIn mem p) keys waits n keys′ waits′ n′
+abbrev pub OpenedUp : List ℕ → ℕ → Bool → List ℕ → List ℕ → List ℕ → ℕ → List ℕ → List ℕ → List ℕ → ℕ → Type 0
+OpenedUp mem p all dx keys waits n dx′ keys′ waits′ n′ = Relaxed mem p all dx dx′ × Spread mem (partWord mem p 2) dx′ (rowsIn mem p) keys waits n keys′ waits′ n′
 
 -- the bound of what lies outside a part
 pub record BoundOutside (mem : List ℕ) (part : ℕ) (dx : List ℕ) (out : ℕ) : Type 0 where
@@ -79,11 +80,11 @@ vanLeaf m (present v) = leafOf m (headOf m v)
 unfoldable pub isOffered : Map → State → List ℕ → Listed → Bool
 isOffered m s marks l = eqb (word marks (vanLeaf m (slotOf s (l .van)))) 1
 
--- a part that does not hold x, whose boundary has its distances, and whose key is a bound
+-- a part that does not hold x, whose boundary has its distances where an active vertex of the part arrives, and whose key is a bound
 pub record Waits (m : Map) (s : State) (x : ℕ) (dx : List ℕ) (q key : ℕ) : Type 0 where
   pub is-part : q < partCount m
   pub apart : holds m q x ≡ false
-  pub gates : (b : ℕ) → boundary m q b ≡ true → word dx b ≤ dist m b x
+  pub gates : (b : ℕ) → boundary m q b ≡ true → rowOf m (active m s) q b .distance < FAR → word dx b ≤ dist m b x
   pub bound : (v : ℕ) → Coming m s x v → holds m q v ≡ true → key ≤ dist m v x
 
 pub record Searching (m : Map) (s : State) (x k : ℕ) (dx keys marks waits : List ℕ) (part out n : ℕ) (found : List Listed) : Type 0 where
@@ -91,6 +92,8 @@ pub record Searching (m : Map) (s : State) (x k : ℕ) (dx keys marks waits : Li
   pub marks-length : length marks ≡ 512
   -- no distance is too little
   pub honest : (v : ℕ) → v < m .vertices → dist m v x ≤ word dx v
+  -- nor too great, where there is one
+  pub known : (v : ℕ) → v < m .vertices → word dx v < FAR → word dx v ≤ dist m v x
   pub is-part : part < partCount m
   pub holds-x : holds m part x ≡ true
   pub root-out : part ≡ 0 → out ≡ FAR

@@ -37,43 +37,45 @@ pub struct Search {
     pub ended: bool,
 }
 
-// A leaf is looked at, once: its vertices get their distances, and their vans are offered.
+// A leaf is looked at, once: its vertices, all or the active ones, get their distances, and their vans are offered.
 fn take_leaf(
     mem: &[u32],
     leaf: u32,
+    all: bool,
     dx: &mut [u32],
     marks: &mut [u32],
     best: BestList,
     k: usize,
 ) -> BestList
     requires { ⌜ (best .len ≤ k) × (1 ≤ k) × (k ≤ 32) ⌝ }
-    ensures { λ r. ⌜ LeafTaken (now (mem .entry)) leaf (now (dx .entry)) (now (marks .entry)) best k (now (dx .exit)) (now (marks .exit)) r ⌝ }
+    ensures { λ r. ⌜ LeafTaken (now (mem .entry)) leaf all (now (dx .entry)) (now (marks .entry)) best k (now (dx .exit)) (now (marks .exit)) r ⌝ }
 {
     let p = wide(leaf);
     if word(marks, p) == 1 {
         return best;
     }
-    relax(mem, p, dx);
+    relax(mem, p, all, dx);
     put(marks, p, 1);
     let size = rows_in(mem, p);
     let first = wide(part_word(mem, p, 2));
     offer_leaf(mem, counts_in(mem), first, size, dx, best, k)
 }
 
-// A part with children is opened up: its borders get their distances, and its children wait.
+// A part with children is opened up: its borders, all or those that an active vertex of their child reaches, get their distances, and its children wait.
 fn open_up(
     mem: &[u32],
     part: u32,
+    all: bool,
     dx: &mut [u32],
     keys: &mut [u32],
     waits: &mut [u32],
     n: usize,
 ) -> usize
     requires { ⌜ (farCount (now keys) + n ≤ 512) × (length (now waits) ≡ 512) ⌝ }
-    ensures { λ r. ⌜ OpenedUp (now (mem .entry)) part (now (dx .entry)) (now (keys .entry)) (now (waits .entry)) n (now (dx .exit)) (now (keys .exit)) (now (waits .exit)) r ⌝ }
+    ensures { λ r. ⌜ OpenedUp (now (mem .entry)) part all (now (dx .entry)) (now (keys .entry)) (now (waits .entry)) n (now (dx .exit)) (now (keys .exit)) (now (waits .exit)) r ⌝ }
 {
     let p = wide(part);
-    relax(mem, p, dx);
+    relax(mem, p, all, dx);
     spread(mem, p, dx, keys, waits, n)
 }
 
@@ -124,7 +126,7 @@ fn climb(
         };
     }
     lower(keys, wide(part), 0);
-    let n = open_up(mem, above, dx, keys, waits, s.waiting);
+    let n = open_up(mem, above, true, dx, keys, waits, s.waiting);
     let out = bound_outside(mem, above, dx);
     Search {
         best: best,
@@ -154,7 +156,7 @@ fn take_waiting(
     let q = give_up(waits, at, n);
     let left = n - 1;
     if part_word(mem, wide(q), 4) == 0 {
-        let found = take_leaf(mem, q, dx, marks, best, k);
+        let found = take_leaf(mem, q, false, dx, marks, best, k);
         return Search {
             best: found,
             part: s.part,
@@ -163,7 +165,7 @@ fn take_waiting(
             ended: false,
         };
     }
-    let more = open_up(mem, q, dx, keys, waits, left);
+    let more = open_up(mem, q, false, dx, keys, waits, left);
     Search {
         best: best,
         part: s.part,
@@ -249,7 +251,7 @@ fn search_at(
 {
     let leaf = vertex_word(mem, counts_in(mem), x, 0);
     put(dx, wide(x), 0);
-    let best = take_leaf(mem, leaf, dx, marks, BestList::empty(), k);
+    let best = take_leaf(mem, leaf, true, dx, marks, BestList::empty(), k);
     lower(keys, wide(leaf), 0);
     let out = bound_outside(mem, leaf, dx);
     let s = Search {

@@ -14,10 +14,10 @@ use Rattle.part_bounds.proofs.gather.Statement.{statement}
 use Rattle.part_bounds.proofs.gather.Tie as tie
 
 abbrev Inv-loop : tie.InvT-loop
-Inv-loop mem first table size dx places₀ near₀ count₀ i₀ places near count i = (i ≤ size) × Gathered mem first table size dx i places near count
+Inv-loop mem first table size all dx places₀ near₀ count₀ i₀ places near count i = (i ≤ size) × Gathered mem first table size dx i places near count
 
 abbrev μ-loop : tie.MeasureT-loop
-μ-loop mem first table size dx places₀ near₀ count₀ i₀ places near count i = size - i
+μ-loop mem first table size all dx places₀ near₀ count₀ i₀ places near count i = size - i
 
 loop-holds : tie.Need-loop-holds Inv-loop μ-loop
 loop-holds c = (omega arith, gathered-none (c .before .before .before .before .pre .3) (c .before .before .before .before .pre .4))

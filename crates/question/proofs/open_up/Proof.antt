@@ -24,7 +24,7 @@ same-length-3 : tie.Need-same-length-3
 same-length-3 c = search needs
 
 returns : tie.Need-returns
-returns c = opened-up _ _ _ _ _ _ (c .before .before .before .before .before .before .before .before .before .before .before .before .wide .ensures) (c .before .before .before .before .before .before .before .before .before .before .relax .ensures) (c .before .before .before .before .spread .ensures)
+returns c = opened-up _ _ _ _ _ _ _ (c .before .before .before .before .before .before .before .before .before .before .before .before .wide .ensures) (c .before .before .before .before .before .before .before .before .before .before .relax .ensures) (c .before .before .before .before .spread .ensures)
 
 pub open-up-spec : {M : Type 1} → statement M
 open-up-spec =

@@ -15,7 +15,7 @@ same-length : tie.Need-same-length
 same-length c = search needs
 
 returns : tie.Need-returns
-returns c = leaf-left _ _ _ _ _ _ (c .before .before .before .wide .ensures) (c .before .word .ensures) (c .if1 .taken) (c .before .before .before .before .before .before .before .pre .0)
+returns c = leaf-left _ _ _ _ _ _ _ (c .before .before .before .wide .ensures) (c .before .word .ensures) (c .if1 .taken) (c .before .before .before .before .before .before .before .pre .0)
 
 relax-requires : tie.Need-relax-requires
 relax-requires c κs = search needs
@@ -45,7 +45,7 @@ same-length-3 : tie.Need-same-length-3
 same-length-3 c = search needs
 
 returns-2 : tie.Need-returns-2
-returns-2 c = leaf-looked _ _ _ _ _ _ (c .before .before .before .before .before .before .before .before .before .before .before .before .before .before .before .before .before .wide .ensures) (c .before .before .before .before .before .before .before .before .before .before .before .before .before .before .before .word .ensures) (c .before .before .before .before .before .before .before .before .before .before .before .before .before .before .if1 .left) (c .before .before .before .before .before .before .before .before .before .before .before .before .relax .ensures) (c .before .before .before .before .before .before .before .before .put .ensures) (c .before .before .before .before .before .rows-in .ensures .0) (c .before .before .before .before .part-word .ensures) (c .before .before .before .wide2 .ensures) (c .before .before .counts-in .ensures) (c .offer-leaf .ensures .0) (c .offer-leaf .ensures .1)
+returns-2 c = leaf-looked _ _ _ _ _ _ _ (c .before .before .before .before .before .before .before .before .before .before .before .before .before .before .before .before .before .wide .ensures) (c .before .before .before .before .before .before .before .before .before .before .before .before .before .before .before .word .ensures) (c .before .before .before .before .before .before .before .before .before .before .before .before .before .before .if1 .left) (c .before .before .before .before .before .before .before .before .before .before .before .before .relax .ensures) (c .before .before .before .before .before .before .before .before .put .ensures) (c .before .before .before .before .before .rows-in .ensures .0) (c .before .before .before .before .part-word .ensures) (c .before .before .before .wide2 .ensures) (c .before .before .counts-in .ensures) (c .offer-leaf .ensures .0) (c .offer-leaf .ensures .1)
 
 pub take-leaf-spec : {M : Type 1} → statement M
 take-leaf-spec =
