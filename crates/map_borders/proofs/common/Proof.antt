@@ -20,15 +20,6 @@ loop-holds c = refl
 returns : tie.Need-returns Inv-loop μ-loop
 returns c = sym (c .before .before .loop .inv ∙ meet-here _ _ _ _ (c .before .loop-test .taken) (c .if1 .taken))
 
-lesser-requires : tie.Need-lesser-requires Inv-loop μ-loop
-lesser-requires c κs = search needs
-
-greater-requires : tie.Need-greater-requires Inv-loop μ-loop
-greater-requires c κs = search needs
-
-entry-requires : tie.Need-entry-requires Inv-loop μ-loop
-entry-requires c κs = search needs
-
 sub-left : tie.Need-sub-left Inv-loop μ-loop
 sub-left c = omega arith
 
@@ -51,9 +42,9 @@ common-spec =
     μ-loop
     loop-holds
     returns
-    lesser-requires
-    greater-requires
-    entry-requires
+    (search needs)
+    (search needs)
+    (search needs)
     sub-left
     loop-less
     loop-again

@@ -16,15 +16,6 @@ abbrev μ-loop : tie.MeasureT-loop
 loop-holds : tie.Need-loop-holds Inv-loop μ-loop
 loop-holds c = totalling-start (c .before .before .pre .2)
 
-entry-requires : tie.Need-entry-requires Inv-loop μ-loop
-entry-requires c κs = search needs
-
-cast-lift : tie.Need-cast-lift Inv-loop μ-loop
-cast-lift c = search needs
-
-mul-lift : tie.Need-mul-lift Inv-loop μ-loop
-mul-lift c = search needs
-
 element-copy-out-lift : tie.Need-element-copy-out-lift Inv-loop μ-loop
 element-copy-out-lift c = omega arith
 
@@ -50,9 +41,9 @@ count-all-spec =
     Inv-loop
     μ-loop
     loop-holds
-    entry-requires
-    cast-lift
-    mul-lift
+    (search needs)
+    (search needs)
+    (search needs)
     element-copy-out-lift
     mark-requires
     add-v

@@ -18,9 +18,6 @@ loop-holds c = marking-start (c .before .pre .0)
 returns : tie.Need-returns Inv-loop μ-loop
 returns c = marking-stop _ _ (c .before .before .loop .inv) (c .if1 .taken)
 
-entry-requires : tie.Need-entry-requires Inv-loop μ-loop
-entry-requires c κs = search needs
-
 bump-requires : tie.Need-bump-requires Inv-loop μ-loop
 bump-requires c κs = (c .before .before .before .before .loop .inv .room, λ q. omega (arith, c .before .before .before .before .loop .inv .few q, c .before .before .before .before .before .before .pre .1 q))
 
@@ -44,7 +41,7 @@ mark-spec =
     μ-loop
     loop-holds
     returns
-    entry-requires
+    (search needs)
     bump-requires
     sub-left
     loop-less

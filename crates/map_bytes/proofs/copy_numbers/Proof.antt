@@ -16,15 +16,6 @@ abbrev μ-loop : tie.MeasureT-loop
 loop-holds : tie.Need-loop-holds Inv-loop μ-loop
 loop-holds c = copying-start (c .before .before .pre)
 
-number-at-requires : tie.Need-number-at-requires Inv-loop μ-loop
-number-at-requires c κs = search needs
-
-cast-words : tie.Need-cast-words Inv-loop μ-loop
-cast-words c = search needs
-
-mul-words : tie.Need-mul-words Inv-loop μ-loop
-mul-words c = search needs
-
 slice-write-words : tie.Need-slice-write-words Inv-loop μ-loop
 slice-write-words c = omega (arith, c .before .before .loop .inv .fits)
 
@@ -50,9 +41,9 @@ copy-numbers-spec =
     Inv-loop
     μ-loop
     loop-holds
-    number-at-requires
-    cast-words
-    mul-words
+    (search needs)
+    (search needs)
+    (search needs)
     slice-write-words
     add-i
     loop-less

@@ -16,9 +16,6 @@ parts-fit-requires c κs = (omega (arith, c .before .before .before .pre .vertic
 returns : tie.Need-returns
 returns c = λ m shows roads. rules-by m (sym (c .before .parts-fit .ensures m shows) ∙ not-true _ (c .if1 .taken)) refl refl
 
-roads-fit-requires : tie.Need-roads-fit-requires
-roads-fit-requires c κs = search needs
-
 returns-2 : tie.Need-returns-2
 returns-2 c = λ m shows roads. rules-by m (sym (c .before .before .before .parts-fit .ensures m shows) ∙ not-false _ (c .before .before .if1 .left)) (roads-known m _ _ _ (shows .vertexCount) roads (c .before .roads-fit .ensures) (not-true _ (c .if2 .taken))) refl
 
@@ -53,7 +50,7 @@ judge-rules-spec =
     (tie.spec
     parts-fit-requires
     returns
-    roads-fit-requires
+    (search needs)
     returns-2
     measure-requires
     sizes-fit-requires

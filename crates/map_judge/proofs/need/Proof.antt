@@ -42,9 +42,6 @@ loop-holds c = summing-start (c .pre .0) (c .pre .1) (c .pre .2) refl
 cast-size : tie.Need-cast-size Inv-loop μ-loop
 cast-size c = omega (arith, c .before .loop .inv .limits .parts)
 
-mul-size : tie.Need-mul-size Inv-loop μ-loop
-mul-size c = search needs
-
 element-copy-out-size : tie.Need-element-copy-out-size Inv-loop μ-loop
 element-copy-out-size c = omega (arith, c .before .loop .inv .limits .parts, c .before .loop .inv .room)
 
@@ -95,7 +92,7 @@ need-spec =
     add-words-4
     loop-holds
     cast-size
-    mul-size
+    (search needs)
     element-copy-out-size
     mul-words-4
     mul-words-5

@@ -19,23 +19,11 @@ abbrev μ-loop : tie.MeasureT-loop
 loop-holds : tie.Need-loop-holds Inv-loop μ-loop
 loop-holds c = left-start
 
-cast-at : tie.Need-cast-at Inv-loop μ-loop
-cast-at c = search needs
-
-mul-t8 : tie.Need-mul-t8 Inv-loop μ-loop
-mul-t8 c = search needs
-
 element-copy-out-t11 : tie.Need-element-copy-out-t11 Inv-loop μ-loop
 element-copy-out-t11 c = omega arith
 
-mul-t12 : tie.Need-mul-t12 Inv-loop μ-loop
-mul-t12 c = search needs
-
 element-copy-out-t15 : tie.Need-element-copy-out-t15 Inv-loop μ-loop
 element-copy-out-t15 c = omega arith
-
-fits-requires : tie.Need-fits-requires Inv-loop μ-loop
-fits-requires c κs = search needs
 
 returns : tie.Need-returns Inv-loop μ-loop
 unfolding familyOf
@@ -61,12 +49,12 @@ families-fit-spec =
     Inv-loop
     μ-loop
     loop-holds
-    cast-at
-    mul-t8
+    (search needs)
+    (search needs)
     element-copy-out-t11
-    mul-t12
+    (search needs)
     element-copy-out-t15
-    fits-requires
+    (search needs)
     returns
     add-p
     loop-less

@@ -20,9 +20,6 @@ loop-holds c = refl
 returns : tie.Need-returns Inv-loop μ-loop
 returns c = sym (c .before .before .loop .inv ∙ near-here _ _ _ (c .before .loop-test .taken) (c .if1 .taken))
 
-entry-requires : tie.Need-entry-requires Inv-loop μ-loop
-entry-requires c κs = search needs
-
 sub-left : tie.Need-sub-left Inv-loop μ-loop
 sub-left c = omega arith
 
@@ -43,7 +40,7 @@ near-root-spec =
     μ-loop
     loop-holds
     returns
-    entry-requires
+    (search needs)
     sub-left
     loop-less
     loop-again

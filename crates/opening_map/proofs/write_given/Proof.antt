@@ -9,18 +9,6 @@ use Rattle.opening_map.proofs.write_given.Tie as tie
 measure-requires : tie.Need-measure-requires
 measure-requires c κs = (omega arith, all-long 4096 65535, all-same 4096 65535, all-long 512 0, zeros-all 512)
 
-slice-aggregate-write-sections : tie.Need-slice-aggregate-write-sections
-slice-aggregate-write-sections c = search needs
-
-slice-aggregate-write-sections-2 : tie.Need-slice-aggregate-write-sections-2
-slice-aggregate-write-sections-2 c = search needs
-
-write-sections-requires : tie.Need-write-sections-requires
-write-sections-requires c κs = search needs
-
-same-length : tie.Need-same-length
-same-length c = search needs
-
 returns : tie.Need-returns
 returns c =
     let args = c .before .before .before .before .before .before .before .before .before .before .before .before .before .args in
@@ -36,8 +24,8 @@ write-given-spec =
     tie.close
     (tie.spec
     measure-requires
-    slice-aggregate-write-sections
-    slice-aggregate-write-sections-2
-    write-sections-requires
-    same-length
+    (search needs)
+    (search needs)
+    (search needs)
+    (search needs)
     returns)

@@ -25,20 +25,8 @@ loop-holds c =
 sub-p : tie.Need-sub-p Inv-loop μ-loop
 sub-p c = omega arith
 
-wide-requires : tie.Need-wide-requires Inv-loop μ-loop
-wide-requires c κs = search needs
-
-word-requires : tie.Need-word-requires Inv-loop μ-loop
-word-requires c κs = search needs
-
-limited-requires : tie.Need-limited-requires Inv-loop μ-loop
-limited-requires c κs = search needs
-
 mul-start-of : tie.Need-mul-start-of Inv-loop μ-loop
 mul-start-of c = omega arith
-
-start-of-requires : tie.Need-start-of-requires Inv-loop μ-loop
-start-of-requires c κs = search needs
 
 loop-less : tie.Need-loop-less Inv-loop μ-loop
 loop-less c = omega arith
@@ -72,11 +60,11 @@ rows-begin-spec =
     μ-loop
     loop-holds
     sub-p
-    wide-requires
-    word-requires
-    limited-requires
+    (search needs)
+    (search needs)
+    (search needs)
     mul-start-of
-    start-of-requires
+    (search needs)
     loop-less
     loop-again
     returns)

@@ -20,9 +20,6 @@ loop-holds c =
     let args = c .before .before .args in
     (omega arith, first-none (args .mem .now) (args .cursors .now))
 
-wide-requires : tie.Need-wide-requires Inv-loop μ-loop
-wide-requires c κs = search needs
-
 mul-wide : tie.Need-mul-wide Inv-loop μ-loop
 mul-wide c = omega arith
 
@@ -31,15 +28,6 @@ add-wide c = omega arith
 
 add-wide-2 : tie.Need-add-wide-2 Inv-loop μ-loop
 add-wide-2 c = omega arith
-
-wide-requires-2 : tie.Need-wide-requires-2 Inv-loop μ-loop
-wide-requires-2 c κs = search needs
-
-word-requires : tie.Need-word-requires Inv-loop μ-loop
-word-requires c κs = search needs
-
-put-requires : tie.Need-put-requires Inv-loop μ-loop
-put-requires c κs = search needs
 
 add-p : tie.Need-add-p Inv-loop μ-loop
 add-p c = omega arith
@@ -75,13 +63,13 @@ first-rows-spec =
     Inv-loop
     μ-loop
     loop-holds
-    wide-requires
+    (search needs)
     mul-wide
     add-wide
     add-wide-2
-    wide-requires-2
-    word-requires
-    put-requires
+    (search needs)
+    (search needs)
+    (search needs)
     add-p
     loop-less
     loop-again

@@ -27,18 +27,6 @@ loop-holds c =
     let args = c .before .before .before .before .before .args in
     (omega arith, refl, refl, λ m ready. rows-none m (args .parents .now) (args .leaves .now) (args .lifts .now) (args .vertices) (args .base) (args .cursors .now) (args .mem .now) ready)
 
-wide-requires : tie.Need-wide-requires Inv-loop μ-loop
-wide-requires c κs = search needs
-
-word-requires : tie.Need-word-requires Inv-loop μ-loop
-word-requires c κs = search needs
-
-wide-requires-2 : tie.Need-wide-requires-2 Inv-loop μ-loop
-wide-requires-2 c κs = search needs
-
-word-requires-2 : tie.Need-word-requires-2 Inv-loop μ-loop
-word-requires-2 c κs = search needs
-
 mul-climb : tie.Need-mul-climb Inv-loop μ-loop
 mul-climb c = omega arith
 
@@ -47,9 +35,6 @@ add-climb c = omega arith
 
 add-climb-2 : tie.Need-add-climb-2 Inv-loop μ-loop
 add-climb-2 c = omega arith
-
-climb-requires : tie.Need-climb-requires Inv-loop μ-loop
-climb-requires c κs = search needs
 
 add-v : tie.Need-add-v Inv-loop μ-loop
 add-v c = omega arith
@@ -98,14 +83,14 @@ write-rows-spec =
     Inv-loop
     μ-loop
     loop-holds
-    wide-requires
-    word-requires
-    wide-requires-2
-    word-requires-2
+    (search needs)
+    (search needs)
+    (search needs)
+    (search needs)
     mul-climb
     add-climb
     add-climb-2
-    climb-requires
+    (search needs)
     add-v
     loop-less
     loop-again

@@ -6,36 +6,6 @@ use borrow.Author.Needs.{needs}
 use Rattle.opening_sections.proofs.write_net.Statement.{statement}
 use Rattle.opening_sections.proofs.write_net.Tie as tie
 
-mul-vertices-at : tie.Need-mul-vertices-at
-mul-vertices-at c = search needs
-
-add-vertices-at : tie.Need-add-vertices-at
-add-vertices-at c = search needs
-
-mul-write-roads : tie.Need-mul-write-roads
-mul-write-roads c = search needs
-
-add-write-roads : tie.Need-add-write-roads
-add-write-roads c = search needs
-
-slice-aggregate-write-roads : tie.Need-slice-aggregate-write-roads
-slice-aggregate-write-roads c = search needs
-
-write-roads-requires : tie.Need-write-roads-requires
-write-roads-requires c κs = search needs
-
-slice-aggregate-write-vertices : tie.Need-slice-aggregate-write-vertices
-slice-aggregate-write-vertices c = search needs
-
-slice-aggregate-write-vertices-2 : tie.Need-slice-aggregate-write-vertices-2
-slice-aggregate-write-vertices-2 c = search needs
-
-write-vertices-requires : tie.Need-write-vertices-requires
-write-vertices-requires c κs = search needs
-
-same-length : tie.Need-same-length
-same-length c = search needs
-
 returns : tie.Need-returns
 returns c =
     let args = c .before .before .before .before .before .before .before .before .before .before .before .before .before .before .before .before .args in
@@ -50,14 +20,14 @@ pub write-net-spec : {M : Type 1} → statement M
 write-net-spec =
     tie.close
     (tie.spec
-    mul-vertices-at
-    add-vertices-at
-    mul-write-roads
-    add-write-roads
-    slice-aggregate-write-roads
-    write-roads-requires
-    slice-aggregate-write-vertices
-    slice-aggregate-write-vertices-2
-    write-vertices-requires
-    same-length
+    (search needs)
+    (search needs)
+    (search needs)
+    (search needs)
+    (search needs)
+    (search needs)
+    (search needs)
+    (search needs)
+    (search needs)
+    (search needs)
     returns)

@@ -5,18 +5,6 @@ use borrow.Author.Needs.{needs}
 use Rattle.opening_sections.proofs.write_part_section.Statement.{statement}
 use Rattle.opening_sections.proofs.write_part_section.Tie as tie
 
-rows-begin-requires : tie.Need-rows-begin-requires
-rows-begin-requires c κs = search needs
-
-slice-aggregate-write-parts : tie.Need-slice-aggregate-write-parts
-slice-aggregate-write-parts c = search needs
-
-write-parts-requires : tie.Need-write-parts-requires
-write-parts-requires c κs = search needs
-
-same-length : tie.Need-same-length
-same-length c = search needs
-
 returns : tie.Need-returns
 returns c =
     let args = c .before .before .before .before .before .before .before .before .before .before .args in
@@ -31,8 +19,8 @@ pub write-part-section-spec : {M : Type 1} → statement M
 write-part-section-spec =
     tie.close
     (tie.spec
-    rows-begin-requires
-    slice-aggregate-write-parts
-    write-parts-requires
-    same-length
+    (search needs)
+    (search needs)
+    (search needs)
+    (search needs)
     returns)

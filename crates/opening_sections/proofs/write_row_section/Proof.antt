@@ -5,27 +5,6 @@ use borrow.Author.Needs.{needs}
 use Rattle.opening_sections.proofs.write_row_section.Statement.{statement}
 use Rattle.opening_sections.proofs.write_row_section.Tie as tie
 
-slice-aggregate-first-rows : tie.Need-slice-aggregate-first-rows
-slice-aggregate-first-rows c = search needs
-
-first-rows-requires : tie.Need-first-rows-requires
-first-rows-requires c κs = search needs
-
-mul-write-rows : tie.Need-mul-write-rows
-mul-write-rows c = search needs
-
-add-write-rows : tie.Need-add-write-rows
-add-write-rows c = search needs
-
-slice-aggregate-write-rows : tie.Need-slice-aggregate-write-rows
-slice-aggregate-write-rows c = search needs
-
-write-rows-requires : tie.Need-write-rows-requires
-write-rows-requires c κs = search needs
-
-same-length : tie.Need-same-length
-same-length c = search needs
-
 returns : tie.Need-returns
 returns c =
     let args = c .before .before .before .before .before .before .before .before .before .before .before .before .before .before .args in
@@ -38,11 +17,11 @@ pub write-row-section-spec : {M : Type 1} → statement M
 write-row-section-spec =
     tie.close
     (tie.spec
-    slice-aggregate-first-rows
-    first-rows-requires
-    mul-write-rows
-    add-write-rows
-    slice-aggregate-write-rows
-    write-rows-requires
-    same-length
+    (search needs)
+    (search needs)
+    (search needs)
+    (search needs)
+    (search needs)
+    (search needs)
+    (search needs)
     returns)

@@ -22,20 +22,11 @@ Inv-loop mem₀ at n base count i₀ mem i = Clearing mem₀ base count mem i ×
 abbrev μ-loop : tie.MeasureT-loop
 μ-loop mem₀ at n base count i₀ mem i = count - i
 
-wide-requires : tie.Need-wide-requires Inv-loop μ-loop
-wide-requires c κs = search needs
-
-wide-requires-2 : tie.Need-wide-requires-2 Inv-loop μ-loop
-wide-requires-2 c κs = search needs
-
 loop-holds : tie.Need-loop-holds Inv-loop μ-loop
 loop-holds c = (clearing-none _ _ _, refl)
 
 add-put : tie.Need-add-put Inv-loop μ-loop
 add-put c = omega arith
-
-put-requires : tie.Need-put-requires Inv-loop μ-loop
-put-requires c κs = search needs
 
 add-i : tie.Need-add-i Inv-loop μ-loop
 add-i c = omega arith
@@ -71,11 +62,11 @@ clear-spec =
     (tie.spec
     Inv-loop
     μ-loop
-    wide-requires
-    wide-requires-2
+    (search needs)
+    (search needs)
     loop-holds
     add-put
-    put-requires
+    (search needs)
     add-i
     loop-less
     loop-again

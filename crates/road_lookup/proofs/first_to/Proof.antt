@@ -23,9 +23,6 @@ sub-middle c = omega arith
 add-middle : tie.Need-add-middle Inv-loop μ-loop
 add-middle c = omega arith
 
-road-end-requires : tie.Need-road-end-requires Inv-loop μ-loop
-road-end-requires c κs = search needs
-
 add-from : tie.Need-add-from Inv-loop μ-loop
 add-from c = omega arith
 
@@ -62,7 +59,7 @@ first-to-spec =
     loop-holds
     sub-middle
     add-middle
-    road-end-requires
+    (search needs)
     add-from
     loop-less
     loop-again

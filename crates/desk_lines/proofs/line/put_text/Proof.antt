@@ -23,12 +23,6 @@ loop-holds c = (omega arith, refl, wrote-start (c .before .before .args .out .no
 add-put-byte : tie.Need-add-put-byte Inv-loop μ-loop
 add-put-byte c = omega arith
 
-shared-slice-read-put-byte : tie.Need-shared-slice-read-put-byte Inv-loop μ-loop
-shared-slice-read-put-byte c = search needs
-
-put-byte-requires : tie.Need-put-byte-requires Inv-loop μ-loop
-put-byte-requires c κs = search needs
-
 add-i : tie.Need-add-i Inv-loop μ-loop
 add-i c = omega arith
 
@@ -54,4 +48,4 @@ returns c = wrote-all (c .before .before .before .before .args .out .now) (c .be
 pub put-text-spec : {M : Type 1} → statement M
 put-text-spec =
     tie.close
-    (tie.spec Inv-loop μ-loop loop-holds add-put-byte shared-slice-read-put-byte put-byte-requires add-i loop-less loop-again add-result same-length returns)
+    (tie.spec Inv-loop μ-loop loop-holds add-put-byte (search needs) (search needs) add-i loop-less loop-again add-result same-length returns)

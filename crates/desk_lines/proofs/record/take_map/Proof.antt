@@ -28,15 +28,6 @@ returns c = sym (take-ended (c .before .before .before .before .args .bytes .now
 add-end : tie.Need-add-end Inv-loop μ-loop
 add-end c = omega arith
 
-number4-requires : tie.Need-number4-requires Inv-loop μ-loop
-number4-requires c κs = search needs
-
-cast-end : tie.Need-cast-end Inv-loop μ-loop
-cast-end c = search needs
-
-add-end-2 : tie.Need-add-end-2 Inv-loop μ-loop
-add-end-2 c = search needs
-
 returns-2 : tie.Need-returns-2 Inv-loop μ-loop
 returns-2 c =
     sym (take-long (c .before .before .before .before .before .before .args .bytes .now) (c .before .before .before .before .loop .at) _ (c .before .number4 .ensures) (c .before .before .before .before .loop .left) (c .before .before .before .loop-test .taken) (c .before .before .if1 .left) (c .if2 .taken))
@@ -61,4 +52,4 @@ returns-3 c = sym (none-left (c .before .before .before .args .bytes .now) (c .b
 pub take-map-spec : {M : Type 1} → statement M
 take-map-spec =
     tie.close
-    (tie.spec Inv-loop μ-loop loop-holds add-if1 returns add-end number4-requires cast-end add-end-2 returns-2 sub-left loop-less loop-again returns-3)
+    (tie.spec Inv-loop μ-loop loop-holds add-if1 returns add-end (search needs) (search needs) (search needs) returns-2 sub-left loop-less loop-again returns-3)
