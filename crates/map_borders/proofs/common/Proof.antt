@@ -1,7 +1,6 @@
 -- `common` is `meet` in 1,024 steps.
 -- Assumes nothing.
 use mathlib.Core.Path.{_≡_, refl, sym, _∙_}
-use native.Mathlib.Omega.{arith}
 use borrow.Author.Needs.{needs}
 use Rattle.map_borders.specs.Lift.{meet}
 use Rattle.map_borders.proofs.Meet.{meet-none, meet-here, meet-above}
@@ -19,12 +18,6 @@ loop-holds c = refl
 
 returns : tie.Need-returns Inv-loop μ-loop
 returns c = sym (c .before .before .loop .inv ∙ meet-here _ _ _ _ (c .before .loop-test .taken) (c .if1 .taken))
-
-sub-left : tie.Need-sub-left Inv-loop μ-loop
-sub-left c = omega arith
-
-loop-less : tie.Need-loop-less Inv-loop μ-loop
-loop-less c = omega arith
 
 loop-again : tie.Need-loop-again Inv-loop μ-loop
 loop-again c =
@@ -45,7 +38,7 @@ common-spec =
     (search needs)
     (search needs)
     (search needs)
-    sub-left
-    loop-less
+    (search needs)
+    (search needs)
     loop-again
     returns-2)

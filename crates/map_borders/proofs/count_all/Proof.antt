@@ -16,17 +16,8 @@ abbrev μ-loop : tie.MeasureT-loop
 loop-holds : tie.Need-loop-holds Inv-loop μ-loop
 loop-holds c = totalling-start (c .before .before .pre .2)
 
-element-copy-out-lift : tie.Need-element-copy-out-lift Inv-loop μ-loop
-element-copy-out-lift c = omega arith
-
 mark-requires : tie.Need-mark-requires Inv-loop μ-loop
 mark-requires c κs = (c .before .before .before .before .loop .inv .room, λ q. omega (arith, c .before .before .before .before .loop .inv .few q, c .before .before .before .before .before .before .before .pre .3 q, c .before .before .before .before .before .before .before .pre .1, c .before .before .before .loop-test .taken))
-
-add-v : tie.Need-add-v Inv-loop μ-loop
-add-v c = omega arith
-
-loop-less : tie.Need-loop-less Inv-loop μ-loop
-loop-less c = omega arith
 
 loop-again : tie.Need-loop-again Inv-loop μ-loop
 loop-again c = totalling-step _ _ (c .before .before .before .before .before .loop .inv) (c .before .before .before .before .loop-test .taken) (c .before .before .before .entry .ensures) (c .mark .ensures)
@@ -44,9 +35,9 @@ count-all-spec =
     (search needs)
     (search needs)
     (search needs)
-    element-copy-out-lift
+    (search needs)
     mark-requires
-    add-v
-    loop-less
+    (search needs)
+    (search needs)
     loop-again
     returns)

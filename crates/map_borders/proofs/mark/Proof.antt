@@ -21,12 +21,6 @@ returns c = marking-stop _ _ (c .before .before .loop .inv) (c .if1 .taken)
 bump-requires : tie.Need-bump-requires Inv-loop μ-loop
 bump-requires c κs = (c .before .before .before .before .loop .inv .room, λ q. omega (arith, c .before .before .before .before .loop .inv .few q, c .before .before .before .before .before .before .pre .1 q))
 
-sub-left : tie.Need-sub-left Inv-loop μ-loop
-sub-left c = omega arith
-
-loop-less : tie.Need-loop-less Inv-loop μ-loop
-loop-less c = omega arith
-
 loop-again : tie.Need-loop-again Inv-loop μ-loop
 loop-again c = marking-step _ _ _ (c .before .before .before .before .before .loop .inv) (c .before .before .before .before .loop-test .taken) (c .before .before .before .if1 .left) (c .before .before .entry .ensures) (c .bump .ensures)
 
@@ -43,7 +37,7 @@ mark-spec =
     returns
     (search needs)
     bump-requires
-    sub-left
-    loop-less
+    (search needs)
+    (search needs)
     loop-again
     returns-2)

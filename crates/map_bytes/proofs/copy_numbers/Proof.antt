@@ -19,12 +19,6 @@ loop-holds c = copying-start (c .before .before .pre)
 slice-write-words : tie.Need-slice-write-words Inv-loop μ-loop
 slice-write-words c = omega (arith, c .before .before .loop .inv .fits)
 
-add-i : tie.Need-add-i Inv-loop μ-loop
-add-i c = omega arith
-
-loop-less : tie.Need-loop-less Inv-loop μ-loop
-loop-less c = omega arith
-
 loop-again : tie.Need-loop-again Inv-loop μ-loop
 loop-again c = copying-step _ _ (c .before .before .loop .inv) (c .before .loop-test .taken) (c .number-at .ensures)
 
@@ -45,8 +39,8 @@ copy-numbers-spec =
     (search needs)
     (search needs)
     slice-write-words
-    add-i
-    loop-less
+    (search needs)
+    (search needs)
     loop-again
     same-length
     returns)

@@ -68,9 +68,6 @@ add-words-6 c =
 add-p : tie.Need-add-p Inv-loop μ-loop
 add-p c = omega (arith, c .before .before .loop .inv .limits .parts)
 
-loop-less : tie.Need-loop-less Inv-loop μ-loop
-loop-less c = omega arith
-
 loop-again : tie.Need-loop-again Inv-loop μ-loop
 loop-again c = summing-step _ (c .before .before .loop .inv) (c .before .loop-test .taken)
 
@@ -99,6 +96,6 @@ need-spec =
     add-words-5
     add-words-6
     add-p
-    loop-less
+    (search needs)
     loop-again
     returns)

@@ -2,7 +2,6 @@
 -- Assumes nothing.
 use Prim.Native.Nat.{_-_}
 use mathlib.Core.Path.{sym, _∙_}
-use native.Mathlib.Omega.{arith}
 use borrow.Author.Needs.{needs}
 use borrow.Author.Tests.{not-true, not-false}
 use Rattle.map_bytes.proofs.Each.{Left, left-start, left-passed, left-failed, left-done}
@@ -19,21 +18,9 @@ abbrev μ-loop : tie.MeasureT-loop
 loop-holds : tie.Need-loop-holds Inv-loop μ-loop
 loop-holds c = left-start
 
-element-copy-out-t11 : tie.Need-element-copy-out-t11 Inv-loop μ-loop
-element-copy-out-t11 c = omega arith
-
-element-copy-out-t15 : tie.Need-element-copy-out-t15 Inv-loop μ-loop
-element-copy-out-t15 c = omega arith
-
 returns : tie.Need-returns Inv-loop μ-loop
 unfolding familyOf
 returns c = left-failed _ (c .before .before .before .before .before .loop .inv) (c .before .before .before .before .loop-test .taken) (sym (c .before .fits2 .ensures) ∙ not-true _ (c .if1 .taken))
-
-add-p : tie.Need-add-p Inv-loop μ-loop
-add-p c = omega arith
-
-loop-less : tie.Need-loop-less Inv-loop μ-loop
-loop-less c = omega arith
 
 loop-again : tie.Need-loop-again Inv-loop μ-loop
 unfolding familyOf
@@ -51,12 +38,12 @@ families-fit-spec =
     loop-holds
     (search needs)
     (search needs)
-    element-copy-out-t11
     (search needs)
-    element-copy-out-t15
+    (search needs)
+    (search needs)
     (search needs)
     returns
-    add-p
-    loop-less
+    (search needs)
+    (search needs)
     loop-again
     returns-2)

@@ -6,8 +6,8 @@ use native.Mathlib.Omega.{arith}
 use mathlib.Core.Bool.{Bool}
 use lib.Dec.{eqb}
 use Rattle.words.specs.Limits.{NONE}
+use Rattle.words.proofs.Lists.{all-same}
 use borrow.Author.Tests.{eq-eqb, ne-eqb, not-true, not-false}
-use Rattle.map_parts.proofs.Counting.{clear}
 use Rattle.map_parts.proofs.Fits.{no-root, no-fall, parts-fit-is}
 use borrow.Author.Needs.{needs}
 use Rattle.map_parts.proofs.parts_fit.Statement.{statement}
@@ -26,10 +26,10 @@ returns-2 c m shows =
     (sym (c .before .parents-fit .ensures) ∙ not-true _ (c .if2 .taken))
 
 tally-requires : tie.Need-tally-requires
-tally-requires c κs = (refl, clear 512, omega arith)
+tally-requires c κs = (refl, λ p. all-same 512 p 0, omega arith)
 
 tally-requires-2 : tie.Need-tally-requires-2
-tally-requires-2 c κs = (refl, clear 512, omega arith)
+tally-requires-2 c κs = (refl, λ p. all-same 512 p 0, omega arith)
 
 returns-3 : tie.Need-returns-3
 returns-3 c m shows =

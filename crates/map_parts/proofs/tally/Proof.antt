@@ -17,17 +17,8 @@ abbrev μ-loop : tie.MeasureT-loop
 loop-holds : tie.Need-loop-holds Inv-loop μ-loop
 loop-holds c = counting-start (c .before .pre .0) (c .before .pre .1)
 
-cast-p : tie.Need-cast-p Inv-loop μ-loop
-cast-p c = omega arith
-
 add-counts : tie.Need-add-counts Inv-loop μ-loop
 add-counts c = omega (arith, c .before .before .before .before .loop .inv .few (c .before .before .entry .result))
-
-add-i : tie.Need-add-i Inv-loop μ-loop
-add-i c = omega arith
-
-loop-less : tie.Need-loop-less Inv-loop μ-loop
-loop-less c = omega arith
 
 loop-again : tie.Need-loop-again Inv-loop μ-loop
 loop-again c =
@@ -47,12 +38,12 @@ tally-spec =
     μ-loop
     loop-holds
     (search needs)
-    cast-p
+    (search needs)
     (search needs)
     (search needs)
     add-counts
     (search needs)
-    add-i
-    loop-less
+    (search needs)
+    (search needs)
     loop-again
     returns)

@@ -22,15 +22,6 @@ loop-holds c =
     let args = c .before .args in
     (omega arith, λ m given. rows-last m (args .sizes .now) (args .parts) (args .rows-end) given)
 
-sub-p : tie.Need-sub-p Inv-loop μ-loop
-sub-p c = omega arith
-
-mul-start-of : tie.Need-mul-start-of Inv-loop μ-loop
-mul-start-of c = omega arith
-
-loop-less : tie.Need-loop-less Inv-loop μ-loop
-loop-less c = omega arith
-
 loop-again : tie.Need-loop-again Inv-loop μ-loop
 loop-again c =
     let args = c .before .before .before .before .before .before .before .args in
@@ -59,12 +50,12 @@ rows-begin-spec =
     Inv-loop
     μ-loop
     loop-holds
-    sub-p
     (search needs)
     (search needs)
     (search needs)
-    mul-start-of
     (search needs)
-    loop-less
+    (search needs)
+    (search needs)
+    (search needs)
     loop-again
     returns)

@@ -26,23 +26,8 @@ loop-holds c =
     let args = c .before .before .before .before .args in
     (omega arith, refl, refl, λ m ready. (families-none m (args .parents .now) (args .sizes .now) (args .parts) (args .tables-end) (args .rows-end) (args .children .now) (args .mem .now) ready, parts-none m (args .parents .now) (args .sizes .now) (args .parts) (args .tables-end) (args .rows-end) (args .children .now) (args .mem .now) ready))
 
-sub-p : tie.Need-sub-p Inv-loop μ-loop
-sub-p c = omega arith
-
 mul-start-of : tie.Need-mul-start-of Inv-loop μ-loop
 mul-start-of c = record { fits = square-fits _ (c .limited .ensures .0) }
-
-mul-start-of-2 : tie.Need-mul-start-of-2 Inv-loop μ-loop
-mul-start-of-2 c = omega arith
-
-mul-write-part : tie.Need-mul-write-part Inv-loop μ-loop
-mul-write-part c = omega arith
-
-add-write-part : tie.Need-add-write-part Inv-loop μ-loop
-add-write-part c = omega arith
-
-loop-less : tie.Need-loop-less Inv-loop μ-loop
-loop-less c = omega arith
 
 loop-again : tie.Need-loop-again Inv-loop μ-loop
 loop-again c =
@@ -97,23 +82,23 @@ write-parts-spec =
     Inv-loop
     μ-loop
     loop-holds
-    sub-p
+    (search needs)
     (search needs)
     (search needs)
     (search needs)
     mul-start-of
     (search needs)
-    mul-start-of-2
     (search needs)
     (search needs)
     (search needs)
     (search needs)
     (search needs)
     (search needs)
-    mul-write-part
-    add-write-part
     (search needs)
-    loop-less
+    (search needs)
+    (search needs)
+    (search needs)
+    (search needs)
     loop-again
     same-length
     same-length-2

@@ -47,12 +47,6 @@ returns c =
     let if1 = c .if1 in
     λ m start st s. climbing-end m (args .parents .now) (args .leaf) (args .lift) (args .v) (args .itself) st (loop .part) (loop .child) (loop .below) (loop .left) _ start (loop .cursors) _ (loop .mem) _ (loop .inv .2 m start st s) (write-row .ensures) (if1 .taken)
 
-sub-left : tie.Need-sub-left Inv-loop μ-loop
-sub-left c = omega arith
-
-loop-less : tie.Need-loop-less Inv-loop μ-loop
-loop-less c = omega arith
-
 loop-again : tie.Need-loop-again Inv-loop μ-loop
 loop-again c =
     let args = c .before .before .before .before .before .before .before .before .before .before .before .before .before .before .before .args in
@@ -91,8 +85,8 @@ climb-spec =
     returns
     (search needs)
     (search needs)
-    sub-left
-    loop-less
+    (search needs)
+    (search needs)
     loop-again
     same-length-3
     same-length-4

@@ -20,21 +20,6 @@ loop-holds c =
     let args = c .before .before .args in
     (omega arith, first-none (args .mem .now) (args .cursors .now))
 
-mul-wide : tie.Need-mul-wide Inv-loop μ-loop
-mul-wide c = omega arith
-
-add-wide : tie.Need-add-wide Inv-loop μ-loop
-add-wide c = omega arith
-
-add-wide-2 : tie.Need-add-wide-2 Inv-loop μ-loop
-add-wide-2 c = omega arith
-
-add-p : tie.Need-add-p Inv-loop μ-loop
-add-p c = omega arith
-
-loop-less : tie.Need-loop-less Inv-loop μ-loop
-loop-less c = omega arith
-
 loop-again : tie.Need-loop-again Inv-loop μ-loop
 loop-again c =
     let args = c .before .before .before .before .before .before .before .before .before .before .before .args in
@@ -64,14 +49,14 @@ first-rows-spec =
     μ-loop
     loop-holds
     (search needs)
-    mul-wide
-    add-wide
-    add-wide-2
     (search needs)
     (search needs)
     (search needs)
-    add-p
-    loop-less
+    (search needs)
+    (search needs)
+    (search needs)
+    (search needs)
+    (search needs)
     loop-again
     same-length
     returns)

@@ -27,21 +27,6 @@ loop-holds c =
     let args = c .before .before .before .before .before .args in
     (omega arith, refl, refl, λ m ready. rows-none m (args .parents .now) (args .leaves .now) (args .lifts .now) (args .vertices) (args .base) (args .cursors .now) (args .mem .now) ready)
 
-mul-climb : tie.Need-mul-climb Inv-loop μ-loop
-mul-climb c = omega arith
-
-add-climb : tie.Need-add-climb Inv-loop μ-loop
-add-climb c = omega arith
-
-add-climb-2 : tie.Need-add-climb-2 Inv-loop μ-loop
-add-climb-2 c = omega arith
-
-add-v : tie.Need-add-v Inv-loop μ-loop
-add-v c = omega arith
-
-loop-less : tie.Need-loop-less Inv-loop μ-loop
-loop-less c = omega arith
-
 loop-again : tie.Need-loop-again Inv-loop μ-loop
 loop-again c =
     let args = c .before .before .before .before .before .before .before .before .before .before .before .before .before .before .before .before .before .before .args in
@@ -87,12 +72,12 @@ write-rows-spec =
     (search needs)
     (search needs)
     (search needs)
-    mul-climb
-    add-climb
-    add-climb-2
     (search needs)
-    add-v
-    loop-less
+    (search needs)
+    (search needs)
+    (search needs)
+    (search needs)
+    (search needs)
     loop-again
     same-length
     same-length-2

@@ -1,7 +1,10 @@
 -- `write_net` writes the roads and then the vertices of a sound map that is shown.
 -- Assumes nothing.
 use mathlib.Core.Path.{refl, _∙_}
-use Rattle.opening_sections.proofs.Ready.{roads-ready, zeros-long, zeros-none, net-stands}
+use Prim.Native.Nat.{ℕ}
+use lib.ListN.{length-replicate}
+use Rattle.words.proofs.Lists.{all-same}
+use Rattle.opening_sections.proofs.Ready.{roads-ready, net-stands}
 use borrow.Author.Needs.{needs}
 use Rattle.opening_sections.proofs.write_net.Statement.{statement}
 use Rattle.opening_sections.proofs.write_net.Tie as tie
@@ -13,8 +16,8 @@ returns c =
     let write-vertices = c .before .before .before .write-vertices in
     λ m parents lifts sizes used shown long.
     let S = roads-ready m parents (args .leaves .now) (args .body .now) lifts sizes (args .vertices) (args .roads) (args .parts) used shown (args .mem .now) long in
-    net-stands m parents (args .leaves .now) (args .body .now) lifts sizes (args .vertices) (args .roads) (args .parts) used shown (args .mem .now) long _ _ (write-roads .kept .1 .1 .1 .0 ∙ zeros-long 4096) _ _ (zeros-long 512) (zeros-none 512)
-    (write-roads .ensures m (S _ _ refl (zeros-long 4096) (zeros-none 4096))) (write-vertices .ensures m)
+    net-stands m parents (args .leaves .now) (args .body .now) lifts sizes (args .vertices) (args .roads) (args .parts) used shown (args .mem .now) long _ _ (write-roads .kept .1 .1 .1 .0 ∙ length-replicate {A = ℕ} 4096 0) _ _ (length-replicate {A = ℕ} 512 0) (λ q h. all-same 512 q 0)
+    (write-roads .ensures m (S _ _ refl (length-replicate {A = ℕ} 4096 0) (λ q h. all-same 4096 q 0))) (write-vertices .ensures m)
 
 pub write-net-spec : {M : Type 1} → statement M
 write-net-spec =

@@ -23,7 +23,7 @@ returns c =
     let parts = write-part-section .ensures m (args .leaves .now) (args .body .now) (args .lifts .now) (args .counts .vertices) (args .counts .roads) shown head-long in
     let net = write-net .ensures m (args .parents .now) (args .lifts .now) (args .sizes .now) (args .used) shown part-long in
     let front = front-stands m (args .start) (args .parents .now) (args .leaves .now) (args .body .now) (args .lifts .now) (args .sizes .now) (args .counts .vertices) (args .counts .roads) (args .counts .parts) (args .used) shown (args .mem .now) _ _ _ _ 8192 long (write-head .ensures) parts net refl (clear .ensures) in
-    sections-stand m (args .start) _ _ (vans-long ∙ shown .need-is) front
+    sections-stand m (args .start) _ _ (vans-long ∙ shown .counted .need-is) front
     (write-row-section .ensures m (args .body .now) (args .sizes .now) (args .counts .roads) (args .used) (fits .used .fits) shown vans-long (first-row-stands m (args .start) _ front))
 
 pub write-sections-spec : {M : Type 1} → statement M

@@ -29,18 +29,6 @@ loop-holds c =
     let args = c .before .before .before .before .before .args in
     (omega arith, refl, refl, λ m ready. (taken-none m (args .leaves .now) (args .body .now) (args .roads) (args .vertices) (args .base) (args .ins .now) (args .places .now) (args .mem .now) ready, written-none (verticesAt m) 8 (freshVertex m) 0 (args .mem .now)))
 
-mul-write-vertex : tie.Need-mul-write-vertex Inv-loop μ-loop
-mul-write-vertex c = omega arith
-
-add-write-vertex : tie.Need-add-write-vertex Inv-loop μ-loop
-add-write-vertex c = omega arith
-
-add-v : tie.Need-add-v Inv-loop μ-loop
-add-v c = omega arith
-
-loop-less : tie.Need-loop-less Inv-loop μ-loop
-loop-less c = omega arith
-
 loop-again : tie.Need-loop-again Inv-loop μ-loop
 loop-again c =
     let args = c .before .before .before .before .before .before .before .before .before .before .before .before .before .before .before .before .before .before .before .before .args in
@@ -90,11 +78,11 @@ write-vertices-spec =
     (search needs)
     (search needs)
     (search needs)
-    mul-write-vertex
-    add-write-vertex
     (search needs)
-    add-v
-    loop-less
+    (search needs)
+    (search needs)
+    (search needs)
+    (search needs)
     loop-again
     same-length
     same-length-2

@@ -3,7 +3,6 @@
 use mathlib.Core.Path.{_≡_, refl, _∙_, ap₂}
 use mathlib.Core.List.{List}
 use Prim.Native.Nat.{ℕ, _-_, _≤_}
-use native.Mathlib.Omega.{arith}
 use lib.ListN.{length, replicate}
 use lib.Seq.{sets}
 use borrow.Author.Needs.{needs}
@@ -24,15 +23,6 @@ abbrev μ-loop : tie.MeasureT-loop
 
 loop-holds : tie.Need-loop-holds Inv-loop μ-loop
 loop-holds c = (clearing-none _ _ _, refl)
-
-add-put : tie.Need-add-put Inv-loop μ-loop
-add-put c = omega arith
-
-add-i : tie.Need-add-i Inv-loop μ-loop
-add-i c = omega arith
-
-loop-less : tie.Need-loop-less Inv-loop μ-loop
-loop-less c = omega arith
 
 loop-again : tie.Need-loop-again Inv-loop μ-loop
 loop-again c =
@@ -65,10 +55,10 @@ clear-spec =
     (search needs)
     (search needs)
     loop-holds
-    add-put
     (search needs)
-    add-i
-    loop-less
+    (search needs)
+    (search needs)
+    (search needs)
     loop-again
     same-length
     returns)

@@ -1,6 +1,5 @@
 -- `record::record_size` is `recordSize`.
 -- Assumes nothing.
-use native.Mathlib.Omega.{arith}
 use borrow.Author.Needs.{needs}
 use Rattle.desk_lines.proofs.Sized.{size-short, size-cut, size-whole}
 use Rattle.desk_lines.proofs.record.record_size.Statement.{statement}
