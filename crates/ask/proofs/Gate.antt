@@ -1,45 +1,31 @@
 -- A question on the words used of a memory, as a question on the whole of it.
 -- Assumes nothing.
-use mathlib.Core.Path.{_≡_, refl, sym, ap, subst, _∙_}
-use mathlib.Core.Logic.{_≢_}
-use mathlib.Core.Bool.{Bool, true, false, _&&_, true≢false}
+use mathlib.Core.Path.{_≡_, refl, sym, ap, _∙_}
+use mathlib.Core.Bool.{Bool, true, false}
 use mathlib.Core.List.{List, _++_}
 use Prim.Native.Nat.{ℕ, _+_, _*_, _≤_, _<_}
 use native.Mathlib.Omega.{arith}
 use lib.ListN.{length, take, drop, length-append, length-drop}
-use lib.Seq.{getD-take}
-use lib.Dec.{leb, ltb, eqb}
-use borrow.Author.Tests.{leb-true, ltb-true, lt-ltb, le-ltb, le-leb, lt-leb}
-use Rattle.words.specs.Limits.{headWords, headMark, mostAsked}
+use lib.Dec.{leb, ltb}
+use borrow.Author.Tests.{ltb-true, lt-ltb, le-ltb, le-leb, lt-leb}
+use Rattle.words.specs.Limits.{mostAsked}
 use Rattle.words.specs.Lists.{word, gather}
 use Rattle.words.specs.Tests.{within, _unless_then_}
-use Rattle.words.proofs.Tests.{both-true, within-true}
+use Rattle.words.proofs.Tests.{clash, both-true, within-true}
 use Rattle.words.proofs.Lists.{sum-same, gather-length}
 use Rattle.roads.specs.Map.{Map}
-use Rattle.parts.specs.Size.{need}
-use Rattle.maps.specs.Rules.{countsFit}
 use Rattle.fleet.specs.State.{State}
-use Rattle.fleet.specs.Change.{Answer, refused, accepted}
+use Rattle.fleet.specs.Change.{accepted}
 use Rattle.fleet.specs.Question.{Listed, listedWords, nearest, questionInRange, questionRefusal, Replied, listInto, replyBy, reply}
 use Rattle.answers.specs.declared.Reply.the-variants.{Unopened, OutOfRange, TooSmall, Accepted}
 use Rattle.answers.specs.Answered.{answered}
 use Rattle.calls.specs.Head.{opened, usedOf, Shows}
 use Rattle.calls.specs.Outcome.{Asked}
-use Rattle.calls.proofs.Head.{used-word, shown-opened, room}
+use Rattle.calls.proofs.Head.{used-word, vertices-word, shown-opened}
+use Rattle.calls.proofs.Screen.{screened-unopened, screened-range, screened-neither}
 use Rattle.best_list.specs.declared.BestList.{BestList}
 use Rattle.best_list.proofs.Pass.{length-entries}
 use Rattle.question.specs.Kept.{Genuine, listIn, written}
-use Rattle.question.proofs.Shown.{vertices-read}
-
-clash : {b : Bool} → b ≡ true → b ≡ false → ⊥
-clash passes fails = true≢false (sym passes ∙ fails)
-
-pub used-within : (mem : List ℕ) → opened mem ≡ true → usedOf mem ≤ length mem
-unfolding opened
-used-within mem e =
-    let upToUsed = both-true _ (countsFit (word mem 2) (word mem 3) (word mem 4)) e in
-    let upToMark = both-true (leb headWords (length mem) && eqb (word mem 0) headMark) (leb (usedOf mem) (length mem)) (upToUsed .0) in
-    leb-true (usedOf mem) (length mem) (upToMark .1)
 
 -- The ranges.
 
@@ -55,26 +41,16 @@ asked-few vertices x k e =
     let w = within-true 1 mostAsked k (both .1) in
     (ltb-true x vertices (both .0), w .0, w .1)
 
-head-needed : (m : Map) → headWords ≤ need m
-unfolding need
-head-needed m = omega arith
-
 -- The words used of a memory that shows a fleet are its words.
 module _ {m : Map} {s : State} {mem : List ℕ} (shows : Shows m s mem) where
   pub genuine-used : (used : ℕ) → used ≡ usedOf mem → Genuine m s (take used mem)
   genuine-used used is = record { sound = shows .sound; good = shows .good; is = ap (λ (n : ℕ). take n mem) (is ∙ used-word shows) ∙ shows .words }
 
-  vertices-are : word mem 2 ≡ m .vertices
-  vertices-are = sym (getD-take (usedOf mem) mem 2 0 (omega (arith, enough))) ∙ vertices-read (genuine-used (usedOf mem) refl)
-    where
-      enough : 64 ≤ usedOf mem
-      enough = omega (arith, used-word shows, head-needed m)
-
 module _ (mem : List ℕ) (x k : ℕ) (out : List ℕ) where
   pub asked-unopened : opened mem ≡ false → Asked mem x k out (answered Unopened) out
   asked-unopened shut =
       record {
-        screened = record { unopened = λ e. refl; range = λ e beyond. absurd (clash e shut); neither = λ e fits. absurd (clash e shut) };
+        screened = screened-unopened shut;
         genuine = λ m s shows. absurd (clash (shown-opened shows) shut);
         refusal = λ n e. refl;
         size = refl;
@@ -88,9 +64,9 @@ module _ (mem : List ℕ) (x k : ℕ) (out : List ℕ) where
   pub asked-range : opened mem ≡ true → questionInRange (word mem 2) x k ≡ false → Asked mem x k out (answered OutOfRange) out
   asked-range there beyond =
       record {
-        screened = record { unopened = λ shut. absurd (clash there shut); range = λ e o. refl; neither = λ e fits. absurd (clash fits beyond) };
+        screened = screened-range there beyond;
         genuine = λ m s shows.
-            let r = refused-reply m s 7 (ap (λ (b : Bool). 7 unless b then 5 unless leb (3 * k) (length out) then 0) (ap (λ (v : ℕ). questionInRange v x k) (sym (vertices-are shows)) ∙ beyond)) in
+            let r = refused-reply m s 7 (ap (λ (b : Bool). 7 unless b then 5 unless leb (3 * k) (length out) then 0) (ap (λ (v : ℕ). questionInRange v x k) (sym (vertices-word shows)) ∙ beyond)) in
             (ap (λ (p : Replied). p .answer) (sym r), ap (λ (p : Replied). p .words) (sym r));
         refusal = λ n e. refl;
         size = refl;
@@ -98,12 +74,12 @@ module _ (mem : List ℕ) (x k : ℕ) (out : List ℕ) where
 
   module _ (there : opened mem ≡ true) (fits : questionInRange (word mem 2) x k ≡ true) where
     fits-in : (m : Map) (s : State) → Shows m s mem → questionInRange (m .vertices) x k ≡ true
-    fits-in m s shows = ap (λ (v : ℕ). questionInRange v x k) (sym (vertices-are shows)) ∙ fits
+    fits-in m s shows = ap (λ (v : ℕ). questionInRange v x k) (sym (vertices-word shows)) ∙ fits
 
     pub asked-small : length out < 3 * k → Asked mem x k out (answered TooSmall) out
     asked-small small =
         record {
-          screened = record { unopened = λ shut. absurd (clash there shut); range = λ e beyond. absurd (clash fits beyond); neither = λ e f. (λ six. omega arith, λ seven. omega arith) };
+          screened = screened-neither there fits (λ six. omega arith, λ seven. omega arith);
           genuine = λ m s shows.
               let r = refused-reply m s 5
               (ap (λ (b : Bool). 7 unless b then 5 unless leb (3 * k) (length out) then 0) (fits-in m s shows)
@@ -119,7 +95,7 @@ module _ (mem : List ℕ) (x k : ℕ) (out : List ℕ) where
     unfolding written listInto
     asked-listed {used} best {out′} isUsed enough few fars vans right isOut =
         record {
-          screened = record { unopened = λ shut. absurd (clash there shut); range = λ e beyond. absurd (clash fits beyond); neither = λ e f. (λ six. omega arith, λ seven. omega arith) };
+          screened = screened-neither there fits (λ six. omega arith, λ seven. omega arith);
           genuine = genuine;
           refusal = λ n e. let z : _≡_ {A = ℕ} 0 1 = cc in absurd (omega arith);
           size = ap length isOut ∙ sized;

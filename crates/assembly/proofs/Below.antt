@@ -1,22 +1,19 @@
 -- A row of a part and the row of the same vertex in the child that holds it, as words 2 and 3 of the row say.
 -- Assumes nothing.
-use mathlib.Core.Path.{_≡_, refl, sym, ap, _∙_, subst, subst⁻¹}
-use mathlib.Core.Logic.{⊎-elim, _≢_}
-use mathlib.Core.Bool.{Bool, true, false, cond, true≢false}
-use mathlib.Core.List.{List, List·Memᴰ}
-use Prim.Native.Nat.{ℕ, _+_, _*_, _≤_, _<_}
+use mathlib.Core.Path.{_≡_, refl, ap, _∙_, subst, subst⁻¹}
+use mathlib.Core.Logic.{_≢_}
+use mathlib.Core.Bool.{Bool, true, false, cond}
+use mathlib.Core.List.{List·Memᴰ}
+use Prim.Native.Nat.{ℕ, _+_, _*_, _<_}
 use native.Mathlib.Omega.{arith}
-use lib.ListN.{length, getD}
-use Rattle.words.specs.Lists.{word, placeIn}
-use Rattle.words.proofs.Tests.{true-or-false}
 use Rattle.words.proofs.Lists.{place-in}
 use Rattle.roads.specs.Map.{Map, partCount}
 use Rattle.roads.proofs.Trail.{Net}
-use Rattle.parts.specs.Tree.{leafOf, inPart, holds, children, childOf, isLeaf, verticesOf}
-use Rattle.parts.specs.Border.{boundary, borders}
+use Rattle.parts.specs.Tree.{children, childOf, isLeaf}
+use Rattle.parts.specs.Border.{borders}
 use Rattle.parts.specs.Size.{rowVertices, sizeOf}
-use Rattle.parts.proofs.Tree.{holds-says, one-child}
-use Rattle.parts.proofs.Down.{Tree, boundary-inside, children-says, leaf-childless, borders-child, border-row, child-found}
+use Rattle.parts.proofs.Down.{Tree, boundary-inside, children-says, child-inner, children-apart, borders-child, border-row, child-found}
+use Rattle.parts.proofs.Gates.{rows-inner}
 use Rattle.maps.specs.Sound.{Sound}
 use Rattle.maps.proofs.Distances.{sound-net, sound-tree}
 use Rattle.image.specs.Places.{itselfAt, firstRowOf, rowAt}
@@ -32,13 +29,8 @@ module _ (m : Map) (s : Sound m) where
   net : Net m
   net = sound-net m s
 
-  -- a part that has a child is no leaf, and its row vertices are its borders
-  inner-part : (p c : ℕ) → List·Memᴰ c (children m p) → isLeaf m p ≡ false
-  inner-part p c hc = ⊎-elim (λ leaf. absurd (leaf-childless m p c leaf hc)) (λ other. other) (true-or-false (isLeaf m p))
-
   border-of : (p i : ℕ) → isLeaf m p ≡ false → i < sizeOf m p → List·Memᴰ (rowVertex m p i) (borders m p)
-  unfolding rowVertices
-  border-of p i e hi = subst (λ (b : Bool). List·Memᴰ (rowVertex m p i) (cond b (verticesOf m p) (borders m p))) e (row-is m p i hi)
+  border-of p i e hi = subst (List·Memᴰ (rowVertex m p i)) (rows-inner m p e) (row-is m p i hi)
 
   -- a child has a higher number
   pub child-later : (p c : ℕ) → List·Memᴰ c (children m p) → (c < partCount m) × (p < c)
@@ -47,19 +39,13 @@ module _ (m : Map) (s : Sound m) where
       (said .0, omega (arith, said .1, said .2, s .part c (said .0) .parent (omega (arith, said .2))))
 
   pub row-one : (p i c d : ℕ) → RowIn m p i c → RowIn m p i d → c ≡ d
-  row-one p i c d a b =
-      let here = children-says m p c (a .is-child) in
-      let there = children-says m p d (b .is-child) in
-      one-child m (tree .falls) (rowVertex m p i) (tree .leaf-part (rowVertex m p i) (held .0)) c d (a .is-held) (b .is-held) (here .2) (there .2) (here .1 ∙ sym (there .1))
-    where
-      held : (rowVertex m p i < m .vertices) × (inPart m c (leafOf m (rowVertex m p i)) ≡ true)
-      held = holds-says m c (rowVertex m p i) (a .is-held)
+  row-one p i c d a b = children-apart m net tree p c d (rowVertex m p i) (a .is-child) (b .is-child) (a .is-held) (b .is-held)
 
   -- what word 2 shows
   pub part-below : (p i c : ℕ) → i < sizeOf m p → RowIn m p i c → partBelow m p (rowVertex m p i) ≡ c
   unfolding partBelow
   part-below p i c hi a =
-      ap (λ (b : Bool). cond b 0 (childOf m p (rowVertex m p i))) (inner-part p c (a .is-child))
+      ap (λ (b : Bool). cond b 0 (childOf m p (rowVertex m p i))) (child-inner m p c (a .is-child))
       ∙ child-found m net tree p c (rowVertex m p i) (row-real m p i hi) (a .is-child) (a .is-held)
 
   pub part-below-says : (p i : ℕ) → i < sizeOf m p → partBelow m p (rowVertex m p i) ≢ 0 → RowIn m p i (partBelow m p (rowVertex m p i))
@@ -79,11 +65,11 @@ module _ (m : Map) (s : Sound m) where
   unfolding sizeOf
   place-below p i c hi a =
       place-in (rowVertex m p i) (rowVertices m c)
-      (border-row m net tree p (rowVertex m p i) c (border-of p i (inner-part p c (a .is-child)) hi) (a .is-child) (a .is-held))
+      (border-row m net tree p (rowVertex m p i) c (border-of p i (child-inner m p c (a .is-child)) hi) (a .is-child) (a .is-held))
 
   -- which word 3 shows
   pub row-below : (p i c : ℕ) → i < sizeOf m p → RowIn m p i c → rowBelow m p (rowVertex m p i) ≡ firstRowOf m c + 4 * placeBelow m p i c
   unfolding rowBelow rowAt
   row-below p i c hi a =
-      ap (λ (b : Bool). cond b (itselfAt m (rowVertex m p i)) (rowAt m (childOf m p (rowVertex m p i)) (rowVertex m p i))) (inner-part p c (a .is-child))
+      ap (λ (b : Bool). cond b (itselfAt m (rowVertex m p i)) (rowAt m (childOf m p (rowVertex m p i)) (rowVertex m p i))) (child-inner m p c (a .is-child))
       ∙ ap (λ (d : ℕ). rowAt m d (rowVertex m p i)) (child-found m net tree p c (rowVertex m p i) (row-real m p i hi) (a .is-child) (a .is-held))

@@ -1,7 +1,7 @@
 -- The tables of the children of a part, right over the whole map, by way of the boundary vertices and the part's own table; and so all tables.
 -- Assumes nothing.
-use mathlib.Core.Path.{_≡_, refl, sym, ap, _∙_, subst, subst⁻¹}
-use mathlib.Core.Logic.{_⊎_, inl, inr, ⊎-elim, _≢_}
+use mathlib.Core.Path.{_≡_, sym, ap, _∙_, subst, subst⁻¹}
+use mathlib.Core.Logic.{_⊎_, inl, inr, ⊎-elim}
 use mathlib.Core.Bool.{true}
 use mathlib.Core.List.{List, List·Memᴰ}
 use Prim.Native.Nat.{ℕ, suc, _+_, _*_, _≤_, _<_}
@@ -9,9 +9,9 @@ use native.Mathlib.Nat.{eq-or-lt-of-le, le-antisymm}
 use native.Mathlib.Decide.{decLt, ℕ-discrete}
 use native.Mathlib.Numerals.{add-one}
 use native.Mathlib.Omega.{arith}
-use lib.ListN.{length, getD}
+use lib.ListN.{getD}
 use Rattle.words.specs.Limits.{FAR}
-use Rattle.words.specs.Lists.{word, placeIn}
+use Rattle.words.specs.Lists.{placeIn}
 use Rattle.roads.specs.Map.{Map, partCount}
 use Rattle.roads.specs.Walk.{Walk}
 use Rattle.roads.specs.Dist.{dist}
@@ -19,17 +19,17 @@ use Rattle.roads.proofs.Exact.{dist-exact}
 use Rattle.parts.specs.Tree.{parentOf, holds, children}
 use Rattle.parts.specs.Border.{boundary}
 use Rattle.parts.specs.Size.{rowVertices, sizeOf}
-use Rattle.parts.proofs.Down.{boundary-inside, children-says, children-has}
+use Rattle.parts.proofs.Down.{boundary-inside, children-says, children-has, root-holds}
+use Rattle.parts.proofs.Gates.{boundary-above}
 use Rattle.maps.proofs.Distances.{sound-net, sound-tree}
 use Rattle.image.specs.Places.{tableOf}
 use Rattle.image.specs.Image.{partBelow}
 use Rattle.image.specs.Records.{rowVertex}
 use Rattle.inner_walks.specs.Inner.{Inner, rest}
 use Rattle.inner_walks.proofs.Inner.{walk-inner}
-use Rattle.inner_walks.proofs.Up.{boundary-above, root-holds}
 use Rattle.inner_walks.proofs.Down.{entered-least}
 use Rattle.table_rows.specs.Flat.{Tried}
-use Rattle.assembly.specs.Laid.{Laid, Filled, entry, Outside}
+use Rattle.assembly.specs.Laid.{Laid, Filled, entry}
 use Rattle.assembly.specs.Lower.{Lower, Inside, Short}
 use Rattle.assembly.specs.Steps.{RowIn, placeBelow, Agreed, Tight, EnteredRow, Entered, Risen, Descended}
 use Rattle.assembly.proofs.Places.{row-is, row-real, laid-kept}
@@ -157,7 +157,7 @@ module _ (m : Map) (mem one two : List ℕ) (L : Laid m mem) (p : ℕ) (hp : p <
   child-short i j w hi hj walk =
       subst (λ (k : ℕ). entry m two c k j ≤ w) (row-again m c i hi)
       (subst (λ (l : ℕ). entry m two c (rowOfVertex m c (rowVertex m c i)) l ≤ w) (row-again m c j hj)
-      (entered-least m (sound-net m (L .sound)) (sound-tree m (L .sound)) p c hc T (record {
+      (entered-least m (sound-net m (L .sound)) (sound-tree m (L .sound)) c T (record {
         inner = λ a b w ha hb walk.
             let ra = vertex-row m c a ha in
             let rb = vertex-row m c b hb in
@@ -225,7 +225,7 @@ descent-begins m start mem L R = record {
   short = λ q hq when i j w hi hj walk. ⊎-elim
       (λ root. R .inside .inner q i j w (omega arith) hq hi hj
       (subst⁻¹ (λ (x : ℕ). Inner m x (rowVertex m q i) (rowVertex m q j) w) root
-      (walk-inner m (sound-net m (L .sound)) 0 (root-holds m (sound-net m (L .sound)) (sound-tree m (L .sound))) walk)))
+      (walk-inner m (sound-net m (L .sound)) 0 (root-holds m (sound-tree m (L .sound))) walk)))
       (λ below. absurd (omega arith))
       when;
 }

@@ -1,29 +1,23 @@
 -- Where the words of the tables stand, and that all else that is read stands outside them.
 -- Assumes nothing.
-use mathlib.Core.Path.{_≡_, refl, sym, ap, _∙_, subst, subst⁻¹}
-use mathlib.Core.Logic.{_⊎_, inl, inr, ⊎-elim, _≢_}
-use mathlib.Core.Bool.{Bool, true, false, cond}
+use mathlib.Core.Path.{_≡_, sym, ap, _∙_, subst}
+use mathlib.Core.Logic.{inl, inr}
 use mathlib.Core.List.{List, List·Memᴰ}
 use Prim.Native.Nat.{ℕ, _+_, _*_, _≤_, _<_}
-use native.Mathlib.Nat.{mul-le-mul-left}
-use native.Mathlib.Decide.{decLt, ℕ-discrete}
+use native.Mathlib.Decide.{decLt}
 use native.Mathlib.Omega.{arith}
-use lib.ListN.{length, getD}
-use Rattle.words.specs.Lists.{upTo, word}
-use Rattle.words.proofs.Tests.{true-or-false}
+use lib.ListN.{length}
+use Rattle.words.specs.Lists.{word}
 use Rattle.words.proofs.Sums.{record-within, sum-below}
 use Rattle.words.proofs.Places.{entry-in}
 use Rattle.roads.specs.Map.{Map, partCount, roadCount}
-use Rattle.parts.specs.Tree.{isLeaf, verticesOf}
-use Rattle.parts.specs.Border.{borders}
-use Rattle.parts.specs.Size.{rowVertices, sizeOf, tableWordsBelow, tableWords, rowsBelow, rowCount, need}
+use Rattle.parts.specs.Size.{rowVertices, sizeOf, tableWordsBelow, tableWords}
 use Rattle.parts.proofs.Rows.{row-vertex}
-use Rattle.maps.specs.Sound.{Sound}
-use Rattle.image.specs.Places.{verticesAt, roadsAt, vansAt, tablesAt, rowsAt, tableOf, firstRowOf}
+use Rattle.image.specs.Places.{verticesAt, roadsAt, tablesAt, rowsAt, tableOf, firstRowOf}
 use Rattle.image.specs.Records.{rowVertex}
-use Rattle.image.proofs.Records.{vertices-start, roads-start, vans-start, tables-start, rows-start, rows-end}
+use Rattle.image.proofs.Records.{vertices-start, roads-start, vans-start, tables-start, rows-start}
 use Rattle.table_rows.proofs.Rows.{places-differ}
-use Rattle.assembly.specs.Laid.{Laid, LaidPart, LaidRoad, LaidRow, Outside}
+use Rattle.assembly.specs.Laid.{Laid, Outside}
 
 module _ (m : Map) where
   -- ---- tables
@@ -94,14 +88,6 @@ module _ (m : Map) where
 
   pub row-real : (p i : ℕ) → i < sizeOf m p → rowVertex m p i < m .vertices
   row-real p i h = row-vertex m p (rowVertex m p i) (row-is p i h)
-
-  pub size-few : Sound m → (p : ℕ) → p < partCount m → sizeOf m p ≤ 128
-  unfolding sizeOf rowVertices
-  size-few s p hp = by (isLeaf m p) refl
-    where
-      by : (leaf : Bool) → isLeaf m p ≡ leaf → length (cond leaf (verticesOf m p) (borders m p)) ≤ 128
-      by true e = omega (arith, s .part p hp .leaf e .1)
-      by false e = s .part p hp .borders e
 
 -- What filling reads stays where no word outside the tables changes.
 module _ (m : Map) (before after : List ℕ) (sized : length after ≡ length before) (same : (x : ℕ) → Outside m x → word after x ≡ word before x) where

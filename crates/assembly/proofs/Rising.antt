@@ -1,27 +1,26 @@
 -- The table of a part, right inside the part: blanked, lowered by the roads and the children's tables, and closed.
 -- Assumes nothing.
 use mathlib.Core.Path.{_≡_, refl, sym, ap, _∙_, subst, subst⁻¹}
-use mathlib.Core.Logic.{_⊎_, inl, inr, ⊎-elim, _≢_}
-use mathlib.Core.Bool.{Bool, true, false, cond}
+use mathlib.Core.Logic.{_⊎_, inl, inr, ⊎-elim}
+use mathlib.Core.Bool.{true}
 use mathlib.Core.List.{List, List·Memᴰ}
 use Prim.Native.Nat.{ℕ, suc, _+_, _*_, _≤_, _<_}
 use native.Mathlib.Nat.{eq-or-lt-of-le}
-use native.Mathlib.Decide.{decLt, ℕ-discrete}
+use native.Mathlib.Decide.{ℕ-discrete}
 use native.Mathlib.Omega.{arith}
 use lib.ListN.{length, getD}
-use lib.Dec.{eqb}
 use borrow.Author.Tests.{eq-eqb, ne-eqb}
 use Rattle.words.specs.Lists.{word, placeIn}
 use Rattle.words.proofs.Lists.{place-in}
 use Rattle.words.proofs.Places.{place-of-entry}
-use Rattle.roads.specs.Map.{Road, Map, partCount, roadCount, noRoad, roadAt}
+use Rattle.roads.specs.Map.{Road, Map, partCount, noRoad}
 use Rattle.roads.specs.Dist.{dist}
 use Rattle.roads.proofs.Laws.{dist-most, dist-self}
 use Rattle.parts.specs.Tree.{holds, children}
 use Rattle.parts.specs.Size.{rowVertices, sizeOf}
 use Rattle.parts.proofs.Rows.{rows-unique}
-use Rattle.maps.proofs.Distances.{sound-net, sound-tree}
-use Rattle.image.specs.Places.{tablesAt, rowsAt, tableOf}
+use Rattle.maps.proofs.Distances.{sound-net, sound-tree, few-rows}
+use Rattle.image.specs.Places.{tableOf}
 use Rattle.image.specs.Records.{rowVertex}
 use Rattle.image.proofs.Records.{rows-end}
 use Rattle.inner_walks.specs.Inner.{Inner}
@@ -31,8 +30,8 @@ use Rattle.table_rows.specs.Flat.{blank, Becomes, Blanked, Tried}
 use Rattle.assembly.specs.Laid.{Laid, entry, Outside}
 use Rattle.assembly.specs.Lower.{Honest, Lower, Inside}
 use Rattle.assembly.specs.Steps.{RowIn, placeBelow, Agreed, Noted, Roads, Tight, AtHome, Closed, HaltTried, Risen}
-use Rattle.assembly.proofs.Places.{table-from, tables-apart, table-to, entry-to, row-is, row-real, size-few, laid-kept}
-use Rattle.assembly.proofs.Lowering.{lower-none, lower-then, inside-lower}
+use Rattle.assembly.proofs.Places.{table-from, tables-apart, table-to, row-is, row-real, laid-kept}
+use Rattle.assembly.proofs.Lowering.{lower-none, lower-then}
 use Rattle.assembly.proofs.Trying.{tried-lower, tried-tight, tried-keeps}
 use Rattle.assembly.proofs.Below.{child-later, place-below}
 use Rattle.assembly.proofs.Range.{numbered}
@@ -112,7 +111,7 @@ module _ (marked : List ℕ) {k a w : ℕ} (table size : ℕ) (at : a ≡ k) (re
 
 module _ (m : Map) (before after : List ℕ) (L : Laid m before) (p : ℕ) (hp : p < partCount m) (B : Blanked (tableOf m p) (sizeOf m p) before after) where
   made : Becomes (tableOf m p) (sizeOf m p) (λ T. blank) before after
-  made = B .blanked (size-few m (L .sound) p hp) (omega (arith, L .fits, rows-end m, table-to m p hp))
+  made = B .blanked (few-rows m (L .sound) p hp) (omega (arith, L .fits, rows-end m, table-to m p hp))
 
   pub blank-outside : (x : ℕ) → Outside m x → word after x ≡ word before x
   blank-outside x out = made .outside x (⊎-elim (λ below. inl (omega (arith, table-from m p))) (λ above. inr (omega (arith, table-to m p hp))) out)

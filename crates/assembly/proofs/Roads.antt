@@ -1,9 +1,9 @@
 -- The roads between the row vertices of a part: the noted places, and the words that the roads lower.
 -- Assumes nothing.
-use mathlib.Core.Path.{_≡_, refl, sym, ap, _∙_, subst, subst⁻¹}
+use mathlib.Core.Path.{_≡_, sym, ap, _∙_, subst, subst⁻¹}
 use mathlib.Core.Logic.{inl, inr}
 use mathlib.Core.List.{List}
-use Prim.Native.Nat.{ℕ, suc, _+_, _*_, _≤_, _<_, min}
+use Prim.Native.Nat.{ℕ, suc, _+_, _*_, _≤_, _<_}
 use native.Mathlib.Nat.{eq-or-lt-of-le}
 use native.Mathlib.Decide.{decLt, ℕ-discrete}
 use native.Mathlib.Numerals.{add-one}
@@ -12,20 +12,20 @@ use lib.ListN.{length, getD, set, length-set, List·getD-eq-default}
 use lib.Seq.{getD-set-same, getD-set-other}
 use Rattle.words.specs.Lists.{word, placeIn}
 use Rattle.words.proofs.Places.{entry-in, place-of-entry}
-use Rattle.roads.specs.Map.{Road, Map, partCount, roadCount, noRoad, roadAt}
+use Rattle.roads.specs.Map.{Map, partCount, roadCount, noRoad, roadAt}
 use Rattle.roads.specs.Dist.{dist}
 use Rattle.roads.proofs.Laws.{dist-self, dist-road}
 use Rattle.parts.specs.Size.{rowVertices, sizeOf}
 use Rattle.parts.proofs.Rows.{rows-unique}
-use Rattle.maps.proofs.Distances.{sound-net}
-use Rattle.image.specs.Places.{verticesAt, roadsAt, tableOf, firstRowOf}
+use Rattle.maps.proofs.Distances.{sound-net, few-rows}
+use Rattle.image.specs.Places.{verticesAt, roadsAt, tableOf}
 use Rattle.image.specs.Image.{firstRoadFrom, partBelow}
 use Rattle.image.specs.Records.{rowVertex}
 use Rattle.image.proofs.Records.{vertices-start, roads-start}
 use Rattle.assembly.specs.Laid.{Laid, entry}
-use Rattle.assembly.specs.Lower.{lowered, Lower}
+use Rattle.assembly.specs.Lower.{lowered}
 use Rattle.assembly.specs.Steps.{RowIn, Noted, Apart, Marked, RoadsOf, Roads}
-use Rattle.assembly.proofs.Places.{row-real, size-few, laid-kept}
+use Rattle.assembly.proofs.Places.{row-real, laid-kept}
 use Rattle.assembly.proofs.Lowering.{lower-none, lower-then, lower-one, lower-one-at}
 use Rattle.assembly.proofs.Below.{part-below-says}
 use Rattle.assembly.proofs.Pairs.{vertex-small}
@@ -208,7 +208,7 @@ module _ (mem place marks : List ℕ) (p i r : ℕ) {parts a all b c size first 
     by-own {d = d} {e = e} {marked = marked} starts within ends line-is column-is after-is part-reads part-reads′ M m L hp hi hr N wide =
         road-taken mem place marks m L p i r hp hi hr N (starts-at m L hr) (ends-at m L hr) (weighs m L hr) (shown-vertex m mem L p i hp hi first-is mark-is reads) starts size-is within
         (λ hj. shown-vertex m mem L p j hp hj first-is mark′-is reads′) ends table-is line-is column-is after-is marked (M .kept)
-        (λ hj apart. M .both (omega (arith, wide, size-few m (L .sound) p hp)) (omega (arith, wide, size-few m (L .sound) p hp)) (λ same. alone hj apart same))
+        (λ hj apart. M .both (omega (arith, wide, few-rows m (L .sound) p hp)) (omega (arith, wide, few-rows m (L .sound) p hp)) (λ same. alone hj apart same))
       where
         own : d ≡ partBelow m p (rowVertex m p i)
         own = part-reads (rowVertex m p i) (partBelow m p (rowVertex m p i)) (vertex-small m mem L p i hi)

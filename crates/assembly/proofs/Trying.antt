@@ -1,32 +1,29 @@
 -- One row vertex tried in the table of its part, as a halt between every two: no way round by it is lighter then, and none by a vertex tried before.
 -- Assumes nothing.
-use mathlib.Core.Path.{_≡_, refl, sym, ap, _∙_, subst, subst⁻¹}
-use mathlib.Core.Logic.{_⊎_, inl, inr, ⊎-elim, _≢_}
+use mathlib.Core.Path.{_≡_, subst, subst⁻¹}
+use mathlib.Core.Logic.{_⊎_, inl, inr, ⊎-elim}
 use mathlib.Core.List.{List}
 use Prim.Native.Nat.{ℕ, _+_, _*_, _≤_, _<_, min}
 use native.Mathlib.Decide.{decLt, ℕ-discrete}
 use native.Mathlib.Omega.{arith}
-use lib.ListN.{length}
-use Rattle.words.specs.Lists.{word}
 use Rattle.roads.specs.Map.{Map, partCount}
 use Rattle.roads.specs.Dist.{dist}
-use Rattle.roads.proofs.Trail.{Net}
 use Rattle.roads.proofs.Laws.{dist-triangle}
-use Rattle.parts.specs.Size.{sizeOf, need}
-use Rattle.maps.proofs.Distances.{sound-net}
-use Rattle.image.specs.Places.{tablesAt, rowsAt, tableOf}
+use Rattle.parts.specs.Size.{sizeOf}
+use Rattle.maps.proofs.Distances.{sound-net, few-rows}
+use Rattle.image.specs.Places.{tableOf}
 use Rattle.image.specs.Records.{rowVertex}
 use Rattle.image.proofs.Records.{rows-end}
 use Rattle.table_rows.specs.Flat.{through, Becomes, Tried}
-use Rattle.assembly.specs.Laid.{Laid, entry, Outside}
+use Rattle.assembly.specs.Laid.{Laid, entry}
 use Rattle.assembly.specs.Lower.{Honest, Lower}
 use Rattle.assembly.specs.Steps.{Tight}
-use Rattle.assembly.proofs.Places.{table-from, tables-apart, table-to, entry-to, row-real, size-few}
+use Rattle.assembly.proofs.Places.{table-from, tables-apart, table-to, entry-to, row-real}
 
 module _ (m : Map) (before after : List ℕ) (L : Laid m before) (q k : ℕ) (hq : q < partCount m) (hk : k < sizeOf m q)
     (T : Tried (tableOf m q) (sizeOf m q) k before after) where
   made : Becomes (tableOf m q) (sizeOf m q) (through k) before after
-  made = T .tried (size-few m (L .sound) q hq) hk (omega (arith, L .fits, rows-end m, table-to m q hq))
+  made = T .tried (few-rows m (L .sound) q hq) hk (omega (arith, L .fits, rows-end m, table-to m q hq))
 
   pub tried-entry : (i j : ℕ) → i < sizeOf m q → j < sizeOf m q → entry m after q i j ≡ min (entry m before q i j) (entry m before q i k + entry m before q k j)
   unfolding through

@@ -1,20 +1,17 @@
 -- A change on the words used of a memory, as a change on the whole of it.
 -- Assumes nothing.
 use mathlib.Core.Path.{_≡_, refl, sym, ap, _∙_}
-use mathlib.Core.Bool.{Bool, true, false, _&&_, true≢false}
+use mathlib.Core.Bool.{Bool, true, false, _&&_}
 use mathlib.Core.List.{List, _++_}
 use Prim.Native.Nat.{ℕ, _≤_, _<_}
 use native.Mathlib.Omega.{arith}
 use lib.ListN.{length, take, drop, take-append-drop}
 use lib.Seq.{length-take-le, length-front, drop-at}
-use lib.Dec.{leb, eqb}
-use borrow.Author.Tests.{leb-true, lt-ltb, le-ltb}
-use Rattle.words.specs.Limits.{headWords, headMark, vans, mostDesk}
-use Rattle.words.specs.Lists.{word}
-use Rattle.words.proofs.Tests.{both-true, within-true}
+use borrow.Author.Tests.{lt-ltb, le-ltb}
+use Rattle.words.specs.Limits.{vans, mostDesk}
+use Rattle.words.proofs.Tests.{clash, both-true, within-true}
 use Rattle.roads.specs.Map.{Map}
 use Rattle.parts.specs.Size.{need}
-use Rattle.maps.specs.Rules.{countsFit}
 use Rattle.answers.specs.declared.Reply.the-variants.{Unopened, OutOfRange}
 use Rattle.answers.specs.Answered.{answered}
 use Rattle.fleet.specs.State.{State}
@@ -25,18 +22,9 @@ use Rattle.image.specs.Image.{image}
 use Rattle.refusals.specs.Verdict.{deskOf}
 use Rattle.calls.specs.Head.{opened, usedOf, Shows}
 use Rattle.calls.specs.Outcome.{Changed}
-use Rattle.calls.proofs.Head.{used-word, shown-opened}
+use Rattle.calls.proofs.Head.{opened-fits, used-word, shown-opened}
+use Rattle.calls.proofs.Screen.{screened-unopened, screened-range, screened-neither}
 use Rattle.changes.specs.Done.{Done}
-
-clash : {b : Bool} → b ≡ true → b ≡ false → ⊥
-clash passes fails = true≢false (sym passes ∙ fails)
-
-pub used-within : (mem : List ℕ) → opened mem ≡ true → usedOf mem ≤ length mem
-unfolding opened
-used-within mem e =
-    let upToUsed = both-true _ (countsFit (word mem 2) (word mem 3) (word mem 4)) e in
-    let upToMark = both-true (leb headWords (length mem) && eqb (word mem 0) headMark) (leb (usedOf mem) (length mem)) (upToUsed .0) in
-    leb-true (usedOf mem) (length mem) (upToMark .1)
 
 -- ranges
 
@@ -75,7 +63,7 @@ module _ (c : Change) (mem : List ℕ) where
   pub changed-unopened : opened mem ≡ false → Changed c mem (answered Unopened) mem
   changed-unopened shut =
       record {
-        screened = record { unopened = λ e. refl; range = λ e out. absurd (clash e shut); neither = λ e fits. absurd (clash e shut) };
+        screened = screened-unopened shut;
         genuine = λ m s shows. absurd (clash (shown-opened shows) shut);
         refusal = λ n e. refl;
         size = refl;
@@ -86,7 +74,7 @@ module _ (c : Change) (mem : List ℕ) where
   unfolding step
   changed-range there out =
       record {
-        screened = record { unopened = λ shut. absurd (clash there shut); range = λ e o. refl; neither = λ e fits. absurd (clash fits out) };
+        screened = screened-range there out;
         genuine = λ m s shows.
             let by : step m s c ≡ stepBy 7 m s c = ap (λ (k : ℕ). stepBy k m s c) (out-of-range m s c out) in
             (ap (λ (k : Stepped). k .answer) (sym by), whole m s shows ∙ ap (λ (k : Stepped). image m (k .state) ++ drop (need m) mem) (sym by));
@@ -100,7 +88,7 @@ module _ (c : Change) (mem : List ℕ) where
       → length out ≡ length (take used mem) → Done c (take used mem) answer out → Changed c mem answer (out ++ drop used mem)
   changed-inside used answer out there ok is sized done =
       record {
-        screened = record { unopened = λ shut. absurd (clash there shut); range = λ e no. absurd (clash ok no); neither = λ e fits. done .neither };
+        screened = screened-neither there ok (done .neither);
         genuine = right;
         refusal = λ n e. ap (λ (l : List ℕ). l ++ drop used mem) (done .refusal n e) ∙ take-append-drop used mem;
         size = length-front mem out used sized;
@@ -108,7 +96,7 @@ module _ (c : Change) (mem : List ℕ) where
       }
     where
       fits : used ≤ length mem
-      fits = omega (arith, used-within mem there)
+      fits = omega (arith, opened-fits mem there)
 
       right : (m : Map) (s : State) → Shows m s mem → (answer ≡ step m s c .answer) × (out ++ drop used mem ≡ image m (step m s c .state) ++ drop (need m) mem)
       right m s shows =

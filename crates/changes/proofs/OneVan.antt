@@ -11,6 +11,7 @@ use lib.Dec.{eqb}
 use borrow.Author.Tests.{eq-eqb, ne-eqb}
 use Rattle.words.specs.Limits.{vans}
 use Rattle.words.specs.Lists.{word}
+use Rattle.words.proofs.Tests.{clash}
 use Rattle.roads.specs.Map.{Map}
 use Rattle.maps.specs.Sound.{Sound}
 use Rattle.places.specs.Place.{vertexAt}
@@ -18,7 +19,7 @@ use Rattle.fleet.specs.State.{Slot, State, slotOf, headsFor, active}
 use Rattle.image.specs.Image.{image}
 use Rattle.van_lists.specs.Slot.{wordsOf}
 use Rattle.van_lists.specs.Walk.{written, takenOut, putIn}
-use Rattle.van_lists.proofs.Found.{clash, Found, nothing, found}
+use Rattle.van_lists.proofs.Found.{Found, nothing, found}
 use Rattle.van_lists.proofs.Links.{withSlot, headsAt, linkFrom, link-found, active-first}
 use Rattle.van_lists.proofs.Parked.{Parked}
 use Rattle.van_lists.proofs.Relink.{slot-new, slots-kept, link-elsewhere}

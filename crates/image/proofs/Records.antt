@@ -1,9 +1,9 @@
 -- The image word by word: what stands at each address, and that this is all.
 -- Assumes nothing.
-use mathlib.Core.Path.{_≡_, refl, ap, sym, subst, _∙_}
+use mathlib.Core.Path.{_≡_, refl, ap, ap₂, sym, subst, _∙_}
 use mathlib.Core.List.{List, [], _∷_, _++_}
 use Prim.Native.Nat.{ℕ, zero, suc, _+_, _-_, _*_, _≤_, _<_}
-use native.Mathlib.Nat.{zero-add, mul-comm}
+use native.Mathlib.Nat.{zero-add, add-zero, mul-zero, mul-suc, mul-comm}
 use native.Mathlib.Decide.{decLt}
 use native.Mathlib.Omega.{arith}
 use lib.ListN.{length, getD, drop, length-append, List·getD-append}
@@ -33,53 +33,36 @@ record-word f sized n x w hx hw =
     (sum-same 8 (upTo x) ∙ ap (λ (k : ℕ). 8 * k) (countFrom-length 0 x))
     (gather-number f (λ y. 8) sized n x w hx hw)
 
+-- word w of record k, where records of n words stand one after the other, each made of an entry, its number and the entries after it
+module _ {A : Type 0} (n : ℕ) (one : ℕ → A → List A → List ℕ) (every : ℕ → List A → List ℕ) (next : (i : ℕ) (x : A) (xs : List A) → every i (x ∷ xs) ≡ one i x xs ++ every (suc i) xs)
+    (sized : (i : ℕ) (x : A) (xs : List A) → length (one i x xs) ≡ n) (d : A) where
+  laid-word : (i : ℕ) (xs : List A) (k w : ℕ) → k < length xs → w < n → word (every i xs) (n * k + w) ≡ word (one (i + k) (getD xs k d) (drop (suc k) xs)) w
+  laid-word i [] k w h hw = absurd (omega arith)
+  laid-word i (x ∷ xs) zero w h hw =
+      let start : n * 0 + w ≡ w = omega (arith, mul-zero n) in
+      ap₂ word (next i x xs) start
+      ∙ List·getD-append (one i x xs) (every (suc i) xs) 0 w (omega (arith, sized i x xs))
+      ∙ ap (λ (j : ℕ). word (one j x xs) w) (sym (add-zero i))
+  laid-word i (x ∷ xs) (suc k) w h hw =
+      let after : n * suc k + w ≡ length (one i x xs) + (n * k + w) = omega (arith, mul-suc n k, sized i x xs) in
+      let over : suc i + k ≡ i + suc k = omega arith in
+      ap₂ word (next i x xs) after
+      ∙ getD-append-add (one i x xs) (every (suc i) xs) (n * k + w) 0
+      ∙ laid-word (suc i) xs k w (omega arith) hw
+      ∙ ap (λ (j : ℕ). word (one j (getD xs k d) (drop (suc k) xs)) w) over
+
 -- word w of road r, in roads of which the first has number i
 roads-word : (i : ℕ) (rs : List Road) (r w : ℕ) → r < length rs → w < 4
     → word (roadRecords i rs) (4 * r + w)
     ≡ word (getD rs r noRoad .from ∷ getD rs r noRoad .to ∷ getD rs r noRoad .weight ∷ link (endsAt (getD rs r noRoad .to)) (suc (i + r)) (drop (suc r) rs) ∷ []) w
 unfolding roadRecords
-roads-word i [] r w h hw = absurd (omega arith)
-roads-word i (x ∷ rs) zero w h hw =
-    ap (word (roadRecords i (x ∷ rs))) (zero-add w)
-    ∙ List·getD-append (x .from ∷ x .to ∷ x .weight ∷ link (endsAt (x .to)) (suc i) rs ∷ []) (roadRecords (suc i) rs) 0 w hw
-    ∙ ap (λ (k : ℕ). word (x .from ∷ x .to ∷ x .weight ∷ link (endsAt (x .to)) (suc k) rs ∷ []) w) (sym (plus-zero i))
-  where
-    plus-zero : (k : ℕ) → k + 0 ≡ k
-    plus-zero k = omega arith
-roads-word i (x ∷ rs) (suc r) w h hw =
-    ap (word (roadRecords i (x ∷ rs))) (four r w)
-    ∙ roads-word (suc i) rs r w (omega arith) hw
-    ∙ ap (λ (k : ℕ). word (getD rs r noRoad .from ∷ getD rs r noRoad .to ∷ getD rs r noRoad .weight ∷ link (endsAt (getD rs r noRoad .to)) (suc k) (drop (suc r) rs) ∷ []) w) (over i r)
-  where
-    four : (k l : ℕ) → 4 * suc k + l ≡ suc (suc (suc (suc (4 * k + l))))
-    four k l = omega arith
-
-    over : (k l : ℕ) → suc k + l ≡ k + suc l
-    over k l = omega arith
+roads-word = laid-word 4 (λ i x rest. x .from ∷ x .to ∷ x .weight ∷ link (endsAt (x .to)) (suc i) rest ∷ []) roadRecords (λ i x rest. refl) (λ i x rest. refl) noRoad
 
 -- word w of van k, in slots of which the first is that of van i
 vans-word : (m : Map) (i : ℕ) (slots : List Slot) (k w : ℕ) → k < length slots → w < 8
     → word (vanRecords m i slots) (8 * k + w) ≡ word (vanRecord (getD slots k absent) (nextVan m (getD slots k absent) (suc (i + k)) (drop (suc k) slots))) w
 unfolding vanRecords
-vans-word m i [] k w h hw = absurd (omega arith)
-vans-word m i (x ∷ later) zero w h hw =
-    ap (word (vanRecords m i (x ∷ later))) (zero-add w)
-    ∙ List·getD-append (vanRecord x (nextVan m x (suc i) later)) (vanRecords m (suc i) later) 0 w (omega (arith, van-length x (nextVan m x (suc i) later)))
-    ∙ ap (λ (n : ℕ). word (vanRecord x (nextVan m x (suc n) later)) w) (sym (plus-zero i))
-  where
-    plus-zero : (n : ℕ) → n + 0 ≡ n
-    plus-zero n = omega arith
-vans-word m i (x ∷ later) (suc k) w h hw =
-    ap (word (vanRecords m i (x ∷ later))) (eight (van-length x (nextVan m x (suc i) later)))
-    ∙ getD-append-add (vanRecord x (nextVan m x (suc i) later)) (vanRecords m (suc i) later) (8 * k + w) 0
-    ∙ vans-word m (suc i) later k w (omega arith) hw
-    ∙ ap (λ (n : ℕ). word (vanRecord (getD later k absent) (nextVan m (getD later k absent) (suc n) (drop (suc k) later))) w) (over i k)
-  where
-    eight : length (vanRecord x (nextVan m x (suc i) later)) ≡ 8 → 8 * suc k + w ≡ length (vanRecord x (nextVan m x (suc i) later)) + (8 * k + w)
-    eight e = omega arith
-
-    over : (n l : ℕ) → suc n + l ≡ n + suc l
-    over n l = omega arith
+vans-word m = laid-word 8 (λ i x rest. vanRecord x (nextVan m x (suc i) rest)) (vanRecords m) (λ i x rest. refl) (λ i x rest. van-length x (nextVan m x (suc i) rest)) absent
 
 -- The sections, one after the other.
 module _ (m : Map) where

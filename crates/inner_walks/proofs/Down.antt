@@ -10,30 +10,29 @@ use native.Mathlib.Omega.{arith}
 use Rattle.roads.specs.Map.{Map}
 use Rattle.roads.specs.Walk.{Walk}
 use Rattle.roads.proofs.Trail.{Net}
-use Rattle.parts.specs.Tree.{children}
 use Rattle.parts.specs.Border.{boundary}
 use Rattle.parts.specs.Size.{rowVertices}
-use Rattle.parts.proofs.Down.{Tree}
+use Rattle.parts.proofs.Down.{Tree, boundary-row}
+use Rattle.parts.proofs.Gates.{row-held}
 use Rattle.inner_walks.specs.Inner.{Inner}
 use Rattle.inner_walks.proofs.Inner.{inner-joined, cut-first, cut-last}
-use Rattle.inner_walks.proofs.Up.{row-held, boundary-row}
 
 pub record Entered (m : Map) (c : ℕ) (T : ℕ → ℕ → ℕ) : Type 0 where
   pub inner : (a b w : ℕ) → List·Memᴰ a (rowVertices m c) → List·Memᴰ b (rowVertices m c) → Inner m c a b w → T a b ≤ w
   pub between : (g h w : ℕ) → boundary m c g ≡ true → boundary m c h ≡ true → Walk m g h w → T g h ≤ w
   pub tried : (a g b : ℕ) → List·Memᴰ a (rowVertices m c) → boundary m c g ≡ true → List·Memᴰ b (rowVertices m c) → T a b ≤ T a g + T g b
 
-module _ (m : Map) (net : Net m) (tree : Tree m) (p c : ℕ) (hc : List·Memᴰ c (children m p)) (T : ℕ → ℕ → ℕ) (E : Entered m c T) where
+module _ (m : Map) (net : Net m) (tree : Tree m) (c : ℕ) (T : ℕ → ℕ → ℕ) (E : Entered m c T) where
   pub entered-least : (a b w : ℕ) → List·Memᴰ a (rowVertices m c) → List·Memᴰ b (rowVertices m c) → Walk m a b w → T a b ≤ w
   entered-least a b w ha hb walk =
       ⊎-elim
       (λ k. E .inner a b w ha hb k)
       (λ out.
-      let hg = boundary-row m net tree p c (out .gate) hc (out .is-boundary) in
+      let hg = boundary-row m net tree c (out .gate) (out .is-boundary) in
       ⊎-elim
       (λ k. omega (arith, E .inner a b (out .ahead + out .behind) ha hb (inner-joined (out .inside) k), out .adds))
       (λ back.
-      let hh = boundary-row m net tree p c (back .gate) hc (back .is-boundary) in
+      let hh = boundary-row m net tree c (back .gate) (back .is-boundary) in
       omega (
         arith,
         E .tried a (out .gate) b ha (out .is-boundary) hb,

@@ -6,7 +6,7 @@ use mathlib.Core.List.{List}
 use Prim.Native.Nat.{ℕ, suc, _+_, _*_, _-_, _<_, _≤_}
 use native.Mathlib.Decide.{ℕ-discrete}
 use native.Mathlib.Omega.{arith}
-use lib.ListN.{length, getD, set, replicate, length-set, getD-replicate}
+use lib.ListN.{length, getD, set, length-set}
 use lib.Seq.{getD-set-same, getD-set-other}
 use lib.Dec.{ltb, eqb}
 use borrow.Author.Tests.{ltb-true, ltb-false, lt-ltb, le-ltb, eq-eqb, ne-eqb}
@@ -131,7 +131,3 @@ module _ {parents leaves body : List ℕ} {n : ℕ} where
       or-false : (b : Bool) → (b || false) ≡ b
       or-false true = refl
       or-false false = refl
-
--- an array of 65,535 before any road
-pub high : (n v : ℕ) → v < n → getD (replicate n NONE) v 0 ≡ NONE
-high n v h = getD-replicate n v NONE 0 h

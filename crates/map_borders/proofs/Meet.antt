@@ -11,7 +11,7 @@ use borrow.Author.Tests.{eqb-true, eqb-false, ltb-true, ltb-false, eq-eqb, ne-eq
 use Rattle.words.specs.Lists.{word}
 use Rattle.roads.specs.Map.{Map, partCount}
 use Rattle.parts.specs.Tree.{parentOf}
-use Rattle.parts.proofs.Tree.{Above, here, up, Falls, above-least}
+use Rattle.parts.proofs.Tree.{Above, up, Falls, above-next, above-least}
 use Rattle.map_borders.specs.Lift.{lesserOf, greaterOf, meet}
 
 -- The loop.
@@ -44,10 +44,6 @@ pub record Common (m : Map) (a b x : ℕ) : Type 0 where
   pub both : (c : ℕ) → Above m c a → Above m c b → c ≤ x
   pub one : (c : ℕ) → c ≤ x → Above m c a ⊎ Above m c b → Above m c a × Above m c b
 
-pub up-of : {m : Map} {c : ℕ} (p : ℕ) → Above m c p → c ≢ p → (p ≢ 0) × Above m c (parentOf m p)
-up-of p here other = absurd (other refl)
-up-of p (up root rest) other = (root, rest)
-
 module _ (m : Map) (falls : Falls m) where
   common-self : (a : ℕ) → a < partCount m → Common m a a a
   common-self a h =
@@ -68,11 +64,11 @@ module _ (m : Map) (falls : Falls m) where
       record {
         first = s .first;
         second = omega (arith, s .second, lower);
-        both = λ c p q. s .both c p (up-of high q (λ e. absurd (omega (arith, above-least m falls low (omega arith) p, e))) .1);
+        both = λ c p q. s .both c p (above-next high q (λ e. absurd (omega (arith, above-least m falls low (omega arith) p, e))) .1);
         one = λ c le e.
             ⊎-elim
             (λ p. let r = s .one c le (inl p) in (r .0, up real (r .1)))
-            (λ q. let r = s .one c le (inr (up-of high q (λ e. absurd (omega (arith, s .second, lower, e))) .1)) in (r .0, up real (r .1)))
+            (λ q. let r = s .one c le (inr (above-next high q (λ e. absurd (omega (arith, s .second, lower, e))) .1)) in (r .0, up real (r .1)))
             e;
       }
     where

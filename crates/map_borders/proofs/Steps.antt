@@ -12,9 +12,8 @@ use borrow.Author.Tests.{eqb-true, eqb-false, ltb-true, ltb-false}
 use Rattle.words.specs.Lists.{word}
 use Rattle.roads.specs.Map.{Map, partCount}
 use Rattle.parts.specs.Tree.{parentOf}
-use Rattle.parts.proofs.Tree.{Above, here, up, Falls, above-least}
+use Rattle.parts.proofs.Tree.{Above, here, up, Falls, above-next, above-least}
 use Rattle.map_borders.specs.Mark.{steps}
-use Rattle.map_borders.proofs.Meet.{up-of}
 
 -- d is c or lies above it, lies above the lift, and has the parent p
 pub record Passes (m : Map) (lift p c d : ℕ) : Type 0 where
@@ -40,7 +39,7 @@ module _ (m : Map) (falls : Falls m) (parents : List ℕ) (same : (p : ℕ) → 
         where
           split : Dec (d ≡ c) → ⊥
           split (yes same) = other (ap (parentOf m) (sym same) ∙ s .parent)
-          split (no differ) = none d (record { above = up-of c (s .above) differ .1; high = s .high; parent = s .parent })
+          split (no differ) = none d (record { above = above-next c (s .above) differ .1; high = s .high; parent = s .parent })
 
       further : (k : ℕ) → lift < c → parentOf m c < c → (equal : Bool) → eqb (parentOf m c) p ≡ equal → Once m lift p (parentOf m c) k → Once m lift p c (cond equal 1 0 + k)
       further k more lower true e (inl none) = inr (omega (arith, none .0), (c, record { above = here; high = more; parent = eqb-true (parentOf m c) p e }))

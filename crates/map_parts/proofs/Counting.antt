@@ -1,12 +1,12 @@
 -- The loop that counts how often each number comes.
 -- Assumes nothing.
-use mathlib.Core.Path.{_≡_, refl, sym, ap, ap₂, _∙_}
+use mathlib.Core.Path.{_≡_, sym, ap, ap₂, _∙_}
 use mathlib.Core.Bool.{Bool, true, false, cond}
 use mathlib.Core.List.{List}
-use Prim.Native.Nat.{ℕ, zero, suc, _+_, _-_, _<_, _≤_}
+use Prim.Native.Nat.{ℕ, suc, _+_, _-_, _<_, _≤_}
 use native.Mathlib.Decide.{ℕ-discrete}
 use native.Mathlib.Omega.{arith}
-use lib.ListN.{length, getD, set, replicate, length-set}
+use lib.ListN.{length, getD, set, length-set}
 use lib.Seq.{getD-set-same, getD-set-other}
 use lib.Dec.{eqb}
 use borrow.Author.Tests.{eq-eqb, ne-eqb}
@@ -85,9 +85,3 @@ module _ {numbers : List ℕ} {n : ℕ} where
         few = λ p. omega (arith, s .few p, s .reached);
         each = λ p hp. (let none : n - i ≡ 0 = omega arith in omega (arith, ap (λ (k : ℕ). tallied numbers i k p) none)) ∙ s .each p hp;
       }
-
--- an array of 0 before anything is counted
-pub clear : (n p : ℕ) → _≡_ {A = ℕ} (getD (replicate n 0) p 0) 0
-clear zero p = refl
-clear (suc n) zero = refl
-clear (suc n) (suc p) = clear n p

@@ -24,7 +24,7 @@ use Rattle.counts.specs.declared.Counts.{Counts}
 use Rattle.map_judge.specs.declared.Judgement.{Judgement}
 use Rattle.map_judge.specs.declared.Judgement.the-variants.{Sound as SoundMap, Refused}
 use Rattle.map_judge.specs.Verdict.{told}
-use Rattle.opening_map.specs.Counted.{Counted}
+use Rattle.opening_sections.specs.Counted.{Counted}
 
 -- by the judgement
 opened-by : (bytes mem : List ℕ) (start : ℕ) (judged : Judged) (answer : Answer) (mem′ : List ℕ) → judge bytes ≡ judged → answer ≡ openJudged judged mem start .answer

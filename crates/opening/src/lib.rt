@@ -16,7 +16,7 @@ ghost use Rattle.fleet.specs.State.{freshState};
 ghost use Rattle.image.specs.Image.{image};
 ghost use Rattle.calls.specs.Outcome.{Opened};
 ghost use Rattle.answers.specs.Answered.{answered};
-ghost use Rattle.opening_map.specs.Counted.{Counted};
+ghost use Rattle.opening_sections.specs.Counted.{Counted};
 
 // The whole memory of the map that the bytes show and an empty fleet, in as many words as it needs.
 fn write_memory(map: &[u8], counts: Counts, used: u32, start: u32, memory: &mut [u32])

@@ -2,11 +2,9 @@
 -- Assumes nothing.
 use mathlib.Core.Path.{_≡_, ap, sym, _∙_}
 use mathlib.Core.List.{List}
-use Prim.Native.Nat.{ℕ, _+_, _*_, _<_}
+use Prim.Native.Nat.{ℕ, _+_, _*_}
 use native.Mathlib.Omega.{arith}
-use lib.ListN.{length, getD, drop, replicate, length-replicate, getD-replicate, List·getD-eq-default}
-use native.Mathlib.Decide.{decLt}
-use Rattle.words.specs.Lists.{word}
+use lib.ListN.{getD, drop}
 use Rattle.roads.specs.Map.{Road, Map, partCount, roadCount, noRoad}
 use Rattle.maps.specs.Bytes.{countsOf, bodyAt, start2, start3, start4, decode}
 use Rattle.maps.specs.Judge.{sound, judge}
@@ -17,7 +15,7 @@ use Rattle.map_borders.specs.Sizes.{Given, Lifts, Sizes}
 use Rattle.map_judge.specs.Asked.{asked}
 use Rattle.map_judge.proofs.Shown.{shows-by, given-by}
 use Rattle.opening_sections.specs.Sections as sections
-use Rattle.opening_map.specs.Counted.{Counted}
+use Rattle.opening_sections.specs.Counted.{Counted}
 
 -- the words that the sections' functions are lent show the map
 pub shown-by : (m : Map) (parents leaves body lifts sizes : List ℕ) (v r p used : ℕ) → Given m parents leaves body v r p → Sound m → Counted m v r p used → Lifts m lifts → Sizes m sizes
@@ -25,10 +23,7 @@ pub shown-by : (m : Map) (parents leaves body lifts sizes : List ℕ) (v r p use
 shown-by m parents leaves body lifts sizes v r p used given is-sound counted is-lifts is-sizes =
     record {
       sound = is-sound;
-      vertex-count = counted .vertex-count;
-      road-count = counted .road-count;
-      part-count = counted .part-count;
-      need-is = counted .need-is;
+      counted = counted;
       parents-shown = λ q h. sym (given .shows .parent q (omega (arith, given .shows .count)));
       leaves-shown = λ u h. sym (given .shows .leaf u (omega (arith, given .shows .vertexCount)));
       roads-shown = λ i h. sym (ap (λ (rs : List Road). getD rs i noRoad) (given .roadList) ∙ road-is r body i noRoad (omega (arith, counted .road-count)));
@@ -67,13 +62,3 @@ given-map bytes m v r p used leavesAt roadsAt first second body old parents old�
 
     end : 30 + 2 * p + 2 * v ≡ start4 (asked v r p) + 6
     end = omega arith
-
--- n words x, and 0 past the end
-pub all-long : (n x : ℕ) → length {A = ℕ} (replicate n x) ≡ n
-all-long n x = length-replicate {A = ℕ} n x
-
-pub all-same : (n x q : ℕ) → q < n → word (replicate n x) q ≡ x
-all-same n x q h = getD-replicate n q x 0 h
-
-pub zeros-all : (n q : ℕ) → word (replicate n 0) q ≡ 0
-zeros-all n q = elim (decLt q n) [ yes below ↦ getD-replicate n q 0 0 below | no above ↦ List·getD-eq-default (replicate n 0) 0 (omega (arith, above, all-long n 0)) ]

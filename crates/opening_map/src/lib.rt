@@ -12,7 +12,7 @@ ghost use Rattle.maps.specs.Sound.{Sound};
 ghost use Rattle.maps.specs.Judge.{sound, judge};
 ghost use Rattle.map_borders.specs.Sizes.{Given};
 ghost use Rattle.opening_sections.specs.Sections.{Sections};
-ghost use Rattle.opening_map.specs.Counted.{Counted};
+ghost use Rattle.opening_sections.specs.Counted.{Counted};
 
 // The map with these parents, leaves and roads.
 fn write_given(

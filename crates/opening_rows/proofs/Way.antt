@@ -15,26 +15,13 @@ use Rattle.words.proofs.Lists.{any-by, any-says, keep-says}
 use Rattle.roads.specs.Map.{Map, partCount}
 use Rattle.parts.specs.Tree.{parentOf, leafOf, holds, children, childOf, isLeaf}
 use Rattle.parts.specs.Border.{boundary}
-use Rattle.parts.proofs.Tree.{Above, here, up, Falls, above-least, holds-above, holds-parent}
+use Rattle.parts.proofs.Tree.{none-between, holds-above, holds-least, holds-parent}
 use Rattle.parts.proofs.Way.{in-own-leaf}
-use Rattle.parts.proofs.Down.{Tree, boundary-inside, children-says, children-has, leaf-childless, child-found}
+use Rattle.parts.proofs.Down.{Tree, boundary-inside, children-says, children-has, child-inner, child-held, holding-part, child-found}
 use Rattle.roads.proofs.Trail.{Net}
 use Rattle.image.specs.Places.{itselfAt, rowAt}
 use Rattle.image.specs.Image.{partBelow, rowBelow}
 use Rattle.opening_rows.specs.Rows.{hasRow}
-
--- two parts on the way up: the one with the lower number lies above the other
-above-chain : (m : Map) → Falls m → {q p : ℕ} (x : ℕ) → x < partCount m → Above m q x → Above m p x → q ≤ p → Above m q p
-above-chain m falls x hx a here le = a
-above-chain m falls x hx here (up root rest) le =
-    let less = falls x (omega (arith, root)) hx in
-    absurd (omega (arith, less, above-least m falls (parentOf m x) (omega (arith, less)) rest))
-above-chain m falls x hx (up root rest) (up root′ rest′) le = above-chain m falls (parentOf m x) (omega (arith, falls x (omega (arith, root)) hx)) rest rest′ le
-
--- a part above another and not the same is above the other's parent
-above-next : (m : Map) {q : ℕ} (p : ℕ) → Above m q p → q ≢ p → (p ≢ 0) × Above m q (parentOf m p)
-above-next m p here other = absurd (other refl)
-above-next m p (up root rest) other = (root, rest)
 
 -- the part further down is a part
 pub below-small : (m : Map) (p v : ℕ) → partCount m ≤ mostParts → Tree m → partBelow m p v < 65536
@@ -86,25 +73,19 @@ module _ (m : Map) (net : Net m) (tree : Tree m) (v : ℕ) (hv : v < m .vertices
       by : RowAt q → holds m q v ≡ true
       by (own same) = subst⁻¹ (λ (k : ℕ). holds m k v ≡ true) same (in-own-leaf m v hv)
       by (edge c hc b) =
-          let child = children-says m q c hc in
-          subst (λ (k : ℕ). holds m k v ≡ true) (child .1) (holds-parent m (tree .falls) v leaf-in c (child .2) (boundary-inside m c v b))
+          child-held m net tree q c v hc (boundary-inside m c v b)
 
   -- a part that holds v and has a lower number than another that does is at most the other's parent
   pub no-later : (p q : ℕ) → holds m p v ≡ true → holds m q v ≡ true → q < p → q ≤ parentOf m p
   no-later p q hp hq less =
-      let above-p = holds-above m (tree .falls) v leaf-in p hp in
-      let above-q = holds-above m (tree .falls) v leaf-in q hq in
-      let in-range = above-least m (tree .falls) (leafOf m v) leaf-in above-p in
-      let next = above-next m p (above-chain m (tree .falls) (leafOf m v) leaf-in above-q above-p (omega arith)) (λ same. omega arith) in
-      let lower = tree .falls p (omega (arith, next .0)) (omega (arith, in-range, leaf-in)) in
-      above-least m (tree .falls) (parentOf m p) (omega (arith, lower, in-range, leaf-in)) (next .1)
+      none-between m (tree .falls) q p (leafOf m v) leaf-in (holds-above m (tree .falls) v leaf-in q hq) (holds-above m (tree .falls) v leaf-in p hp) less
 
   pub row-part : (q : ℕ) → hasRow m q v ≡ true → q ≤ leafOf m v
-  row-part q e = above-least m (tree .falls) (leafOf m v) leaf-in (holds-above m (tree .falls) v leaf-in q (row-holds q e))
+  row-part q e = holds-least m (tree .falls) v leaf-in q (row-holds q e)
 
   module _ (lift : ℕ) (lifted : (c : ℕ) → c < partCount m → boundary m c v ≡ (holds m c v && ltb lift c)) (p : ℕ) (here-p : holds m p v ≡ true) where
     p-in : p < partCount m
-    p-in = omega (arith, leaf-in, above-least m (tree .falls) (leafOf m v) leaf-in (holds-above m (tree .falls) v leaf-in p here-p))
+    p-in = holding-part m tree p v here-p
 
     -- above the lift v has a row in the parent, and comes to it from p
     module _ (higher : lift < p) where
@@ -118,11 +99,7 @@ module _ (m : Map) (net : Net m) (tree : Tree m) (v : ℕ) (hv : v < m .vertices
       edge-p = lifted p p-in ∙ both-pass (holds m p v) (ltb lift p) here-p (lt-ltb lift p higher)
 
       not-leaf : isLeaf m (parentOf m p) ≡ false
-      not-leaf = by (isLeaf m (parentOf m p)) refl
-        where
-          by : (b : Bool) → isLeaf m (parentOf m p) ≡ b → b ≡ false
-          by true e = absurd (leaf-childless m (parentOf m p) p e child)
-          by false e = refl
+      not-leaf = child-inner m (parentOf m p) p child
 
       pub parent-lower : parentOf m p < p
       parent-lower = tree .falls p (omega (arith, higher)) p-in
@@ -149,7 +126,7 @@ module _ (m : Map) (net : Net m) (tree : Tree m) (v : ℕ) (hv : v < m .vertices
     no-more low q less e = by (row-at q e)
       where
         by : RowAt q → ⊥
-        by (own same) = omega (arith, above-least m (tree .falls) (leafOf m v) leaf-in (holds-above m (tree .falls) v leaf-in p here-p), same)
+        by (own same) = omega (arith, holds-least m (tree .falls) v leaf-in p here-p, same)
         by (edge c hc b) =
             let child = children-says m q c hc in
             let split = both-true (holds m c v) (ltb lift c) (sym (lifted c (child .0)) ∙ b) in

@@ -6,7 +6,7 @@ use mathlib.Core.Bool.{Bool, true, false, cond}
 use mathlib.Core.List.{List}
 use Prim.Native.Nat.{ℕ, _+_, _*_, _<_}
 use native.Mathlib.Omega.{arith}
-use lib.ListN.{length, replicate, length-replicate, getD-replicate}
+use lib.ListN.{length}
 use Rattle.words.specs.Limits.{mostParts, mostVertices}
 use Rattle.words.specs.Lists.{word, link}
 use Rattle.words.proofs.Places.{entry-in}
@@ -37,15 +37,15 @@ size-small m sound p h = by (isLeaf m p) refl
 
 module _ (m : Map) (parents leaves body lifts sizes : List ℕ) (vertices roads parts used : ℕ) (shown : Shown m parents leaves body lifts sizes vertices roads parts used) (mem : List ℕ) (long : length mem ≡ used) where
   pub parts-sized : parts-specs.Sized m sizes parts used
-  parts-sized = record { count = shown .part-count; rows = shown .need-is; shown = shown .sizes-shown; small = size-small m (shown .sound) }
+  parts-sized = record { count = shown .counted .part-count; rows = shown .counted .need-is; shown = shown .sizes-shown; small = size-small m (shown .sound) }
 
   pub parts-ready : (tablesEnd : ℕ) (children : List ℕ) → tablesEnd ≡ rowsAt m → length children ≡ mostParts → ((q : ℕ) → q < length children → word children q ≡ 0)
       → parts-specs.Ready m parents sizes parts tablesEnd used children mem
   parts-ready tablesEnd children e wide none =
       record {
-        count = shown .part-count;
+        count = shown .counted .part-count;
         tables = e;
-        rows = shown .need-is;
+        rows = shown .counted .need-is;
         parents-shown = shown .parents-shown;
         sizes-shown = shown .sizes-shown;
         root = shown .sound .root;
@@ -54,36 +54,36 @@ module _ (m : Map) (parents leaves body lifts sizes : List ℕ) (vertices roads 
         wide = wide;
         few = shown .sound .parts .1;
         none = none;
-        room = omega (arith, long, shown .need-is, rows-end m, rows-start m, tables-start m, vans-start m, roads-start m);
+        room = omega (arith, long, shown .counted .need-is, rows-end m, rows-start m, tables-start m, vans-start m, roads-start m);
       }
 
   pub roads-ready : (base : ℕ) (ins : List ℕ) → base ≡ 64 + 8 * parts + 8 * vertices → length ins ≡ mostVertices → ((v : ℕ) → v < length ins → word ins v ≡ 0)
       → roads-specs.Ready m body roads base ins mem
   roads-ready base ins e wide none =
       record {
-        count = shown .road-count;
-        start = omega (arith, e, roads-start m, shown .part-count, shown .vertex-count);
+        count = shown .counted .road-count;
+        start = omega (arith, e, roads-start m, shown .counted .part-count, shown .counted .vertex-count);
         shown = shown .roads-shown;
         ends = λ i h. omega (arith, wide, shown .sound .road (roadAt m i) (entry-in (m .roads) i noRoad h) .to-exists, shown .sound .vertices .1);
         none = none;
-        room = omega (arith, long, shown .need-is, rows-end m, rows-start m, tables-start m, vans-start m);
+        room = omega (arith, long, shown .counted .need-is, rows-end m, rows-start m, tables-start m, vans-start m);
       }
 
   pub vertices-ready : (base : ℕ) (ins places mem′ : List ℕ) → base ≡ 64 + 8 * parts → length mem′ ≡ length mem → ((v : ℕ) → v < m .vertices → word ins v ≡ link (endsAt v) 0 (m .roads))
       → length places ≡ mostParts → ((q : ℕ) → q < length places → word places q ≡ 0) → vertices-specs.Ready m leaves body roads vertices base ins places mem′
   vertices-ready base ins places mem′ e same linked wide none =
       record {
-        road-count = shown .road-count;
-        count = shown .vertex-count;
+        road-count = shown .counted .road-count;
+        count = shown .counted .vertex-count;
         few = shown .sound .vertices .1;
-        start = omega (arith, e, vertices-start m, shown .part-count);
+        start = omega (arith, e, vertices-start m, shown .counted .part-count);
         leaves-shown = shown .leaves-shown;
         roads-shown = shown .roads-shown;
         rising = λ i h. ⊎-elim (λ less. omega arith) (λ tie. omega (arith, tie .0)) (shown .sound .rising i h);
         leaf-room = λ v h. omega (arith, wide, shown .sound .vertex v h .0, shown .sound .parts .1);
         linked = linked;
         none = none;
-        room = omega (arith, same, long, shown .need-is, rows-end m, rows-start m, tables-start m, vans-start m, roads-start m, vertices-start m);
+        room = omega (arith, same, long, shown .counted .need-is, rows-end m, rows-start m, tables-start m, vans-start m, roads-start m, vertices-start m);
       }
 
   pub rows-ready : (base : ℕ) (cursors : List ℕ) → used < 4294967296 → base ≡ 64 + 8 * parts → length cursors ≡ mostParts → ((p : ℕ) → p < partCount m → word cursors p ≡ firstRowOf m p)
@@ -91,23 +91,16 @@ module _ (m : Map) (parents leaves body lifts sizes : List ℕ) (vertices roads 
   rows-ready base cursors fits e wide first =
       record {
         sound = shown .sound;
-        small = omega (arith, shown .need-is);
-        count = shown .vertex-count;
-        begins = omega (arith, e, vertices-start m, shown .part-count);
+        small = omega (arith, shown .counted .need-is);
+        count = shown .counted .vertex-count;
+        begins = omega (arith, e, vertices-start m, shown .counted .part-count);
         parents-shown = shown .parents-shown;
         leaves-shown = shown .leaves-shown;
         lifts-shown = shown .lifts-shown;
         wide = wide;
         first = first;
-        room = omega (arith, long, shown .need-is);
+        room = omega (arith, long, shown .counted .need-is);
       }
-
--- n words that are 0
-pub zeros-long : (n : ℕ) → length {A = ℕ} (replicate n 0) ≡ n
-zeros-long n = length-replicate {A = ℕ} n 0
-
-pub zeros-none : (n q : ℕ) → q < length {A = ℕ} (replicate n 0) → word (replicate n 0) q ≡ 0
-zeros-none n q h = getD-replicate n q 0 0 (omega (arith, zeros-long n))
 
 module _ (m : Map) (parents leaves body lifts sizes : List ℕ) (vertices roads parts used : ℕ) (shown : Shown m parents leaves body lifts sizes vertices roads parts used) (mem : List ℕ) (long : length mem ≡ used) where
   -- the roads, and then the vertices with the links that the roads left
@@ -120,7 +113,7 @@ module _ (m : Map) (parents leaves body lifts sizes : List ℕ) (vertices roads 
         between = between;
         roads = stand .records;
         vertices =
-            subst (λ (k : ℕ). Written (verticesAt m) 8 0 k (freshVertex m) between after) (shown .vertex-count)
+            subst (λ (k : ℕ). Written (verticesAt m) 8 0 k (freshVertex m) between after) (shown .counted .vertex-count)
             (then-vertices
             (vertices-ready m parents leaves body lifts sizes vertices roads parts used shown mem long (64 + 8 * parts) ins places between refl (stand .records .long)
             (λ v h. stand .links v (omega (arith, long-ins, shown .sound .vertices .1))) wide none));
@@ -135,8 +128,8 @@ module _ (m : Map) (parents leaves body lifts sizes : List ℕ) (vertices roads 
       record {
         cursors = cursors′;
         rows =
-            subst (λ (k : ℕ). rows-specs.RowsStand m k (λ q. true) mem cursors′ after) (shown .vertex-count)
+            subst (λ (k : ℕ). rows-specs.RowsStand m k (λ q. true) mem cursors′ after) (shown .counted .vertex-count)
             (then-rows
             (rows-ready m parents leaves body lifts sizes vertices roads parts used shown mem long (64 + 8 * parts) cursors fits refl (read .long ∙ wide)
-            (λ p h. read .first p (omega (arith, shown .part-count)) (omega (arith, wide, shown .sound .parts .1, h)) ∙ first p h)));
+            (λ p h. read .first p (omega (arith, shown .counted .part-count)) (omega (arith, wide, shown .sound .parts .1, h)) ∙ first p h)));
       }

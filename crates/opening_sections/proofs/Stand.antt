@@ -100,15 +100,15 @@ module _ (m : Map) (start : ℕ) where
     pub front-stands : (mem a b c d : List ℕ) (n : ℕ) → length mem ≡ used → a ≡ sets mem 0 (headWords used vertices roads parts start) → PartsStand m 0 a b → NetStands m b c
         → n ≡ 8 * vans → d ≡ cleared c (64 + 8 * parts + 8 * vertices + 4 * roads) n → Agrees target 0 (tablesAt m) d
     front-stands mem a b c d n long e w net all f =
-        vans-agree c d n all (f ∙ ap (λ (k : ℕ). cleared c k n) here) (omega (arith, same-length, shown .need-is, rows-end m, rows-start m))
+        vans-agree c d n all (f ∙ ap (λ (k : ℕ). cleared c k n) here) (omega (arith, same-length, shown .counted .need-is, rows-end m, rows-start m))
         (net-agrees b c net
-        (parts-agree a b w (head-agrees mem a (e ∙ ap (sets mem 0) (same-head ∙ head-is)) (omega (arith, long, shown .need-is, rows-end m, rows-start m, tables-start m)))))
+        (parts-agree a b w (head-agrees mem a (e ∙ ap (sets mem 0) (same-head ∙ head-is)) (omega (arith, long, shown .counted .need-is, rows-end m, rows-start m, tables-start m)))))
       where
         here : 64 + 8 * parts + 8 * vertices + 4 * roads ≡ vansAt m
-        here = omega (arith, vans-start m, roads-start m, shown .part-count, shown .vertex-count, shown .road-count)
+        here = omega (arith, vans-start m, roads-start m, shown .counted .part-count, shown .counted .vertex-count, shown .counted .road-count)
 
         same-head : headWords used vertices roads parts start ≡ headWords (need m) (m .vertices) (roadCount m) (partCount m) start
-        same-head = (λ i. headWords (shown .need-is i) (shown .vertex-count i) (shown .road-count i) (shown .part-count i) start)
+        same-head = (λ i. headWords (shown .counted .need-is i) (shown .counted .vertex-count i) (shown .counted .road-count i) (shown .counted .part-count i) start)
 
         same-length : length c ≡ used
         same-length =

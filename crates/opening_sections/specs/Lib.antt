@@ -1,2 +1,3 @@
--- The sections together.
+-- The counts of a map and its need, and the sections together.
+pub mod Counted
 pub mod Sections

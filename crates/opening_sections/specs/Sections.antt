@@ -18,6 +18,7 @@ use Rattle.records.specs.Written.{Written}
 use Rattle.records.specs.Agrees.{Agrees}
 use Rattle.opening_fresh.specs.Fresh.{freshVertex}
 use Rattle.opening_rows.specs.Rows.{RowsStand}
+use Rattle.opening_sections.specs.Counted.{Counted}
 
 -- mark, words used, vertices, roads, parts, change count; the rest of the head is 0
 unfoldable pub headWords : ℕ → ℕ → ℕ → ℕ → ℕ → List ℕ
@@ -26,10 +27,7 @@ headWords used vertices roads parts count = headMark ∷ used ∷ vertices ∷ r
 -- m is sound, has these counts and this need, and what is lent shows it
 pub record Shown (m : Map) (parents leaves body lifts sizes : List ℕ) (vertices roads parts used : ℕ) : Type 0 where
   pub sound : Sound m
-  pub vertex-count : vertices ≡ m .vertices
-  pub road-count : roads ≡ roadCount m
-  pub part-count : parts ≡ partCount m
-  pub need-is : used ≡ need m
+  pub counted : Counted m vertices roads parts used
   pub parents-shown : ShowsParents m parents
   pub leaves-shown : ShowsLeaves m leaves
   pub roads-shown : ShowsRoads m body

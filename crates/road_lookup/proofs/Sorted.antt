@@ -11,17 +11,11 @@ use lib.ListN.{length, getD}
 use lib.Dec.{ltb, eqb}
 use borrow.Author.Tests.{ltb-true, ltb-false, eqb-true, eq-eqb}
 use Rattle.words.specs.Lists.{keep}
-use Rattle.words.proofs.Tests.{both-true}
+use Rattle.words.proofs.Tests.{both-true, pair-trans}
 use Rattle.roads.specs.Map.{Road, Map, roadCount, noRoad, roadAt, roadBetween}
 use Rattle.roads.proofs.Between.{Runs}
 use Rattle.maps.specs.Sound.{RoadBefore, Sound}
 use Rattle.image.specs.Image.{firstRoadFrom}
-
-before-before : (a b c : Road) → RoadBefore a b → RoadBefore b c → RoadBefore a c
-before-before a b c (inl x) (inl y) = inl (omega arith)
-before-before a b c (inl x) (inr y) = inl (omega arith)
-before-before a b c (inr x) (inl y) = inl (omega arith)
-before-before a b c (inr x) (inr y) = inr (omega arith, omega arith)
 
 before-from : (a b : Road) → RoadBefore a b → a .from ≤ b .from
 before-from a b (inl x) = omega arith
@@ -72,12 +66,13 @@ starts (r ∷ rs) u rises = by (ltb (r .from) u) refl (starts rs u (λ i j h l. 
         above : (i : ℕ) → length later ≤ i → i < suc (length rs) → u ≤ getD (r ∷ rs) i noRoad .from
         above i h l = omega (arith, first, rises 0 i (omega arith) l)
 
--- a road is found by its ends where none before it has them, ..
-pub between-found : (rs : List Road) (u v i : ℕ) → i < length rs → Runs rs i u v → ((j : ℕ) → j < i → Runs rs j u v → ⊥) → roadBetween rs u v ≡ i
+-- the first road with these ends, or the number of roads where none has them, is what is found
+between-first : (rs : List Road) (u v i : ℕ) → i ≤ length rs → (i < length rs → Runs rs i u v) → ((j : ℕ) → j < i → Runs rs j u v → ⊥) → roadBetween rs u v ≡ i
 unfolding roadBetween
-between-found [] u v i h runs first = absurd (omega arith)
-between-found (r ∷ rs) u v zero h runs first = rw (eq-eqb (r .from) u (runs .0), eq-eqb (r .to) v (runs .1)) refl
-between-found (r ∷ rs) u v (suc i) h runs first = by (eqb (r .from) u && eqb (r .to) v) refl (between-found rs u v i (omega arith) runs (λ j l. first (suc j) (omega arith)))
+between-first [] u v i h runs first = omega arith
+between-first (r ∷ rs) u v zero h runs first = let ends = runs (omega arith) in rw (eq-eqb (r .from) u (ends .0), eq-eqb (r .to) v (ends .1)) refl
+between-first (r ∷ rs) u v (suc i) h runs first =
+    by (eqb (r .from) u && eqb (r .to) v) refl (between-first rs u v i (omega arith) (λ l. runs (omega arith)) (λ j l. first (suc j) (omega arith)))
   where
     by : (here : Bool) → (eqb (r .from) u && eqb (r .to) v) ≡ here → roadBetween rs u v ≡ i → cond here 0 (suc (roadBetween rs u v)) ≡ suc i
     by true e later =
@@ -85,24 +80,18 @@ between-found (r ∷ rs) u v (suc i) h runs first = by (eqb (r .from) u && eqb (
         absurd (first 0 (omega arith) (eqb-true (r .from) u (ends .0), eqb-true (r .to) v (ends .1)))
     by false e later = ap suc later
 
--- .. and where none has them, none is found
+pub between-found : (rs : List Road) (u v i : ℕ) → i < length rs → Runs rs i u v → ((j : ℕ) → j < i → Runs rs j u v → ⊥) → roadBetween rs u v ≡ i
+between-found rs u v i h runs first = between-first rs u v i (omega arith) (λ l. runs) first
+
 pub between-none : (rs : List Road) (u v : ℕ) → ((j : ℕ) → j < length rs → Runs rs j u v → ⊥) → roadBetween rs u v ≡ length rs
-unfolding roadBetween
-between-none [] u v none = refl
-between-none (r ∷ rs) u v none = by (eqb (r .from) u && eqb (r .to) v) refl (between-none rs u v (λ j l. none (suc j) (omega arith)))
-  where
-    by : (here : Bool) → (eqb (r .from) u && eqb (r .to) v) ≡ here → roadBetween rs u v ≡ length rs → cond here 0 (suc (roadBetween rs u v)) ≡ suc (length rs)
-    by true e later =
-        let ends = both-true (eqb (r .from) u) (eqb (r .to) v) e in
-        absurd (none 0 (omega arith) (eqb-true (r .from) u (ends .0), eqb-true (r .to) v (ends .1)))
-    by false e later = ap suc later
+between-none rs u v none = between-first rs u v (length rs) (omega arith) (λ l. absurd (omega arith)) none
 
 module _ (m : Map) (sound : Sound m) where
   pub in-order : (i j : ℕ) → i < j → j < roadCount m → RoadBefore (roadAt m i) (roadAt m j)
   in-order i zero h l = absurd (omega arith)
   in-order i (suc j) h l =
       elim (decLt i j) [
-        | yes less ↦ before-before (roadAt m i) (roadAt m j) (roadAt m (suc j)) (in-order i j less (omega arith)) (sound .rising j l)
+        | yes less ↦ pair-trans (roadAt m i .from) (roadAt m i .to) (roadAt m j .from) (roadAt m j .to) (roadAt m (suc j) .from) (roadAt m (suc j) .to) (in-order i j less (omega arith)) (sound .rising j l)
         | no same ↦ subst (λ (k : ℕ). RoadBefore (roadAt m k) (roadAt m (suc j))) (last same) (sound .rising j l)
       ]
     where

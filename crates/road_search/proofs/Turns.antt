@@ -13,6 +13,7 @@ use lib.ListN.{length, getD, set, replicate, length-set, length-replicate}
 use lib.Seq.{getD-set-same, getD-set-other}
 use Rattle.words.specs.Limits.{FAR, mostVertices}
 use Rattle.words.specs.Lists.{word}
+use Rattle.words.proofs.Lists.{all-same}
 use Rattle.roads.specs.Map.{Road, Map}
 use Rattle.roads.specs.Walk.{Walk, stay}
 use Rattle.roads.specs.Dist.{relax, relaxAll, dist}
@@ -35,12 +36,7 @@ module _ (a : ℕ) where
 
   begun-far : (v : ℕ) → (v ≡ a → ⊥) → label (begun a) v ≡ FAR
   unfolding begun
-  begun-far v other = getD-set-other (replicate mostVertices FAR) a v 0 FAR other ∙ all-far mostVertices v
-    where
-      all-far : (n v : ℕ) → label (replicate n FAR) v ≡ FAR
-      all-far zero v = refl
-      all-far (suc n) zero = refl
-      all-far (suc n) (suc v) = all-far n v
+  begun-far v other = getD-set-other (replicate mostVertices FAR) a v 0 FAR other ∙ all-same mostVertices v FAR
 
   begun-honest : {m : Map} → a < m .vertices → a < mostVertices → Honest m a (begun a)
   begun-honest {m} there below v = elim (ℕ-discrete v a) [

@@ -1,7 +1,7 @@
 -- The first number of a range that passes a test: what it is, and what it does not depend on.
 -- Assumes nothing.
 use mathlib.Core.Path.{_≡_, refl, sym, _∙_, ap}
-use mathlib.Core.Bool.{Bool, true, false, cond, true≢false}
+use mathlib.Core.Bool.{Bool, true, false, cond}
 use mathlib.Core.List.{List, [], _∷_}
 use Prim.Native.Nat.{ℕ, suc, _+_, _≤_, _<_}
 use native.Mathlib.Nat.{add-zero}
@@ -9,9 +9,7 @@ use native.Mathlib.Omega.{arith}
 use native.Mathlib.Decide.{decLt}
 use lib.ListN.{length, getD}
 use Rattle.words.specs.Lists.{link}
-
-pub clash : {b : Bool} → b ≡ true → b ≡ false → ⊥
-clash passes fails = true≢false (sym passes ∙ fails)
+use Rattle.words.proofs.Tests.{clash}
 
 -- `r` is 1 + the first number from `a` on and below `end` that passes, or 0
 pub data Found (test : ℕ → Bool) (a end r : ℕ) : Type 0 where

@@ -13,13 +13,13 @@ use lib.Seq.{getD-set-other}
 use borrow.Author.Tests.{eq-eqb, ne-eqb}
 use Rattle.words.specs.Limits.{vans}
 use Rattle.words.specs.Lists.{word}
+use Rattle.words.proofs.Tests.{clash}
 use Rattle.roads.specs.Map.{Map}
 use Rattle.counts.specs.declared.Counts.{Counts}
 use Rattle.places.specs.Place.{vertexAt, vanAt}
 use Rattle.fleet.specs.State.{Slot, absent, present, State, slotOf, headOf, headsFor}
 use Rattle.van_lists.specs.Slot.{wordsOf}
 use Rattle.van_lists.specs.Walk.{behind, written, relinked, takenOut, putIn}
-use Rattle.van_lists.proofs.Found.{clash}
 use Rattle.van_lists.proofs.Links.{withSlot, headsAt, linkFrom, heading, heads-there, heads-away, heads-held, heads-absent, recordOf, linkOf, slotWords}
 use Rattle.van_lists.proofs.Parked.{Parked, field, OnlyVans}
 use Rattle.van_lists.proofs.Spot.{LinkAt, vertex-link, van-link, Spot, link-reads, behind-spot}

@@ -8,10 +8,11 @@ use native.Mathlib.Decide.{decLt, ℕ-discrete}
 use lib.ListN.{length, length-set}
 use lib.Seq.{getD-set-same, getD-set-other}
 use Rattle.words.specs.Limits.{vans}
+use Rattle.words.proofs.Tests.{clash}
 use Rattle.roads.specs.Map.{Map}
 use Rattle.counts.specs.declared.Counts.{Counts}
 use Rattle.fleet.specs.State.{Slot, absent, State, slotOf, headsFor}
-use Rattle.van_lists.proofs.Found.{clash, Found, found, found-agrees, found-sooner, found-down}
+use Rattle.van_lists.proofs.Found.{Found, found, found-agrees, found-sooner, found-down}
 use Rattle.van_lists.proofs.Links.{withSlot, headsAt, linkFrom, link-found, link-is}
 use Rattle.van_lists.proofs.Spot.{LinkAt, vertex-link, van-link, Spot}
 

@@ -10,7 +10,8 @@ use lib.Seq.{length-take-le}
 use Rattle.words.specs.Lists.{word}
 use Rattle.fleet.specs.Question.{questionInRange, nearest}
 use Rattle.calls.specs.Head.{opened}
-use Rattle.ask.proofs.Gate.{used-within, asked-few, asked-unopened, asked-range, asked-small, asked-listed}
+use Rattle.calls.proofs.Head.{opened-fits}
+use Rattle.ask.proofs.Gate.{asked-few, asked-unopened, asked-range, asked-small, asked-listed}
 use borrow.Author.Needs.{needs}
 use Rattle.ask.proofs.question.Statement.{statement}
 use Rattle.ask.proofs.question.Tie as tie
@@ -46,7 +47,7 @@ wide-requires-2 : tie.Need-wide-requires-2
 wide-requires-2 c κs = search needs
 
 slice-aggregate-inside : tie.Need-slice-aggregate-inside
-slice-aggregate-inside c = sym (length-take-le _ (c .before .before .before .before .before .before .before .before .before .before .before .before .args .mem .now) (omega (arith, used-within (c .before .before .before .before .before .before .before .before .before .before .before .before .args .mem .now) (sym (c .before .before .before .before .before .before .before .before .before .opened-head .ensures) ∙ not-false _ (c .before .before .before .before .before .before .before .before .if1 .left)), (c .before .wide2 .ensures ∙ c .before .before .word2 .ensures))))
+slice-aggregate-inside c = sym (length-take-le _ (c .before .before .before .before .before .before .before .before .before .before .before .before .args .mem .now) (omega (arith, opened-fits (c .before .before .before .before .before .before .before .before .before .before .before .before .args .mem .now) (sym (c .before .before .before .before .before .before .before .before .before .opened-head .ensures) ∙ not-false _ (c .before .before .before .before .before .before .before .before .if1 .left)), (c .before .wide2 .ensures ∙ c .before .before .word2 .ensures))))
 
 nearest-vans-requires : tie.Need-nearest-vans-requires
 nearest-vans-requires c κs =

@@ -5,7 +5,8 @@ use native.Mathlib.Omega.{arith}
 use borrow.Author.Tests.{not-true, not-false}
 use lib.Seq.{length-take-le}
 use Rattle.fleet.proofs.Good.{van-in-range}
-use Rattle.changes.proofs.Gate.{used-within, desk-small, changed-unopened, changed-range, changed-inside}
+use Rattle.calls.proofs.Head.{opened-fits}
+use Rattle.changes.proofs.Gate.{desk-small, changed-unopened, changed-range, changed-inside}
 use borrow.Author.Needs.{needs}
 use Rattle.changes.proofs.change.Statement.{statement}
 use Rattle.changes.proofs.change.Tie as tie
@@ -51,7 +52,7 @@ slice-relend-prefix-change-in c =
     let if1 = c .before .before .before .before .before .if1 in
     let word = c .before .word in
     let wide = c .wide in
-    omega (arith, used-within (a .mem .now) (sym (opened-head .ensures) ∙ not-false _ (if1 .left)), (wide .ensures ∙ word .ensures))
+    omega (arith, opened-fits (a .mem .now) (sym (opened-head .ensures) ∙ not-false _ (if1 .left)), (wide .ensures ∙ word .ensures))
 
 slice-aggregate-change-in : tie.Need-slice-aggregate-change-in
 slice-aggregate-change-in c =
@@ -60,7 +61,7 @@ slice-aggregate-change-in c =
     let if1 = c .before .before .before .before .before .before .if1 in
     let word = c .before .before .word in
     let wide = c .before .wide in
-    sym (length-take-le _ (a .mem .now) (omega (arith, used-within (a .mem .now) (sym (opened-head .ensures) ∙ not-false _ (if1 .left)), (wide .ensures ∙ word .ensures))))
+    sym (length-take-le _ (a .mem .now) (omega (arith, opened-fits (a .mem .now) (sym (opened-head .ensures) ∙ not-false _ (if1 .left)), (wide .ensures ∙ word .ensures))))
 
 change-in-requires : tie.Need-change-in-requires
 change-in-requires c κs =

@@ -12,17 +12,8 @@ returns : tie.Need-returns
 unfolding bumped
 returns c = sym (set-out _ _ _ (omega arith))
 
-mul-counts : tie.Need-mul-counts
-mul-counts c = search needs
-
-element-copy-out-counts : tie.Need-element-copy-out-counts
-element-copy-out-counts c = search needs
-
 add-counts : tie.Need-add-counts
 add-counts c = omega (arith, c .before .before .pre .1 (c .before .before .args .p))
-
-element-write-counts : tie.Need-element-write-counts
-element-write-counts c = search needs
 
 returns-2 : tie.Need-returns-2
 unfolding bumped
@@ -31,4 +22,4 @@ returns-2 c = refl
 pub bump-spec : {M : Type 1} → statement M
 bump-spec =
     tie.close
-    (tie.spec returns mul-counts element-copy-out-counts add-counts element-write-counts returns-2)
+    (tie.spec returns (search needs) (search needs) add-counts (search needs) returns-2)

@@ -16,26 +16,8 @@ abbrev μ-loop : tie.MeasureT-loop
 loop-holds : tie.Need-loop-holds Inv-loop μ-loop
 loop-holds c = totalling-start (c .before .before .pre .2)
 
-entry-requires : tie.Need-entry-requires Inv-loop μ-loop
-entry-requires c κs = search needs
-
-cast-lift : tie.Need-cast-lift Inv-loop μ-loop
-cast-lift c = search needs
-
-mul-lift : tie.Need-mul-lift Inv-loop μ-loop
-mul-lift c = search needs
-
-element-copy-out-lift : tie.Need-element-copy-out-lift Inv-loop μ-loop
-element-copy-out-lift c = omega arith
-
 mark-requires : tie.Need-mark-requires Inv-loop μ-loop
 mark-requires c κs = (c .before .before .before .before .loop .inv .room, λ q. omega (arith, c .before .before .before .before .loop .inv .few q, c .before .before .before .before .before .before .before .pre .3 q, c .before .before .before .before .before .before .before .pre .1, c .before .before .before .loop-test .taken))
-
-add-v : tie.Need-add-v Inv-loop μ-loop
-add-v c = omega arith
-
-loop-less : tie.Need-loop-less Inv-loop μ-loop
-loop-less c = omega arith
 
 loop-again : tie.Need-loop-again Inv-loop μ-loop
 loop-again c = totalling-step _ _ (c .before .before .before .before .before .loop .inv) (c .before .before .before .before .loop-test .taken) (c .before .before .before .entry .ensures) (c .mark .ensures)
@@ -50,12 +32,12 @@ count-all-spec =
     Inv-loop
     μ-loop
     loop-holds
-    entry-requires
-    cast-lift
-    mul-lift
-    element-copy-out-lift
+    (search needs)
+    (search needs)
+    (search needs)
+    (search needs)
     mark-requires
-    add-v
-    loop-less
+    (search needs)
+    (search needs)
     loop-again
     returns)

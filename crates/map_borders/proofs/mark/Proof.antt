@@ -18,17 +18,8 @@ loop-holds c = marking-start (c .before .pre .0)
 returns : tie.Need-returns Inv-loop μ-loop
 returns c = marking-stop _ _ (c .before .before .loop .inv) (c .if1 .taken)
 
-entry-requires : tie.Need-entry-requires Inv-loop μ-loop
-entry-requires c κs = search needs
-
 bump-requires : tie.Need-bump-requires Inv-loop μ-loop
 bump-requires c κs = (c .before .before .before .before .loop .inv .room, λ q. omega (arith, c .before .before .before .before .loop .inv .few q, c .before .before .before .before .before .before .pre .1 q))
-
-sub-left : tie.Need-sub-left Inv-loop μ-loop
-sub-left c = omega arith
-
-loop-less : tie.Need-loop-less Inv-loop μ-loop
-loop-less c = omega arith
 
 loop-again : tie.Need-loop-again Inv-loop μ-loop
 loop-again c = marking-step _ _ _ (c .before .before .before .before .before .loop .inv) (c .before .before .before .before .loop-test .taken) (c .before .before .before .if1 .left) (c .before .before .entry .ensures) (c .bump .ensures)
@@ -44,9 +35,9 @@ mark-spec =
     μ-loop
     loop-holds
     returns
-    entry-requires
+    (search needs)
     bump-requires
-    sub-left
-    loop-less
+    (search needs)
+    (search needs)
     loop-again
     returns-2)

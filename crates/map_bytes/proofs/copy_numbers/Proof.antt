@@ -16,23 +16,8 @@ abbrev μ-loop : tie.MeasureT-loop
 loop-holds : tie.Need-loop-holds Inv-loop μ-loop
 loop-holds c = copying-start (c .before .before .pre)
 
-number-at-requires : tie.Need-number-at-requires Inv-loop μ-loop
-number-at-requires c κs = search needs
-
-cast-words : tie.Need-cast-words Inv-loop μ-loop
-cast-words c = search needs
-
-mul-words : tie.Need-mul-words Inv-loop μ-loop
-mul-words c = search needs
-
 slice-write-words : tie.Need-slice-write-words Inv-loop μ-loop
 slice-write-words c = omega (arith, c .before .before .loop .inv .fits)
-
-add-i : tie.Need-add-i Inv-loop μ-loop
-add-i c = omega arith
-
-loop-less : tie.Need-loop-less Inv-loop μ-loop
-loop-less c = omega arith
 
 loop-again : tie.Need-loop-again Inv-loop μ-loop
 loop-again c = copying-step _ _ (c .before .before .loop .inv) (c .before .loop-test .taken) (c .number-at .ensures)
@@ -50,12 +35,12 @@ copy-numbers-spec =
     Inv-loop
     μ-loop
     loop-holds
-    number-at-requires
-    cast-words
-    mul-words
+    (search needs)
+    (search needs)
+    (search needs)
     slice-write-words
-    add-i
-    loop-less
+    (search needs)
+    (search needs)
     loop-again
     same-length
     returns)

@@ -13,15 +13,6 @@ counts-by : (bytes : List ℕ) {v r p : ℕ} → v ≡ field bytes 6 2 → r ≡
 unfolding countsOf
 counts-by bytes isV isR isP = λ i. asked (isV i) (isR i) (isP i)
 
-number2-requires : tie.Need-number2-requires
-number2-requires c κs = search needs
-
-number2-requires-2 : tie.Need-number2-requires-2
-number2-requires-2 c κs = search needs
-
-number2-requires-3 : tie.Need-number2-requires-3
-number2-requires-3 c κs = search needs
-
 returns : tie.Need-returns
 returns c = (
   counts-by _ (c .before .before .number2 .ensures .0) (c .before .number22 .ensures .0) (c .number23 .ensures .0),
@@ -32,4 +23,4 @@ returns c = (
 
 pub counts-of-spec : {M : Type 1} → statement M
 counts-of-spec =
-    tie.close (tie.spec number2-requires number2-requires-2 number2-requires-3 returns)
+    tie.close (tie.spec (search needs) (search needs) (search needs) returns)

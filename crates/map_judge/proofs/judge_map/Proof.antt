@@ -8,23 +8,11 @@ use Rattle.map_judge.proofs.Rules.{judge-by}
 use Rattle.map_judge.proofs.judge_map.Statement.{statement}
 use Rattle.map_judge.proofs.judge_map.Tie as tie
 
-is-record-requires : tie.Need-is-record-requires
-is-record-requires c κs = search needs
-
 returns : tie.Need-returns
 returns c = judge-by _ (c .before .is-record .ensures) (not-true _ (c .if1 .taken)) refl refl refl refl refl
 
-counts-of-requires : tie.Need-counts-of-requires
-counts-of-requires c κs = search needs
-
-fit-requires : tie.Need-fit-requires
-fit-requires c κs = search needs
-
 returns-2 : tie.Need-returns-2
 returns-2 c = judge-by _ (c .before .before .before .before .is-record .ensures) (not-false _ (c .before .before .before .if1 .left)) (c .before .before .counts-of .ensures .0) (c .before .fit .ensures) (not-true _ (c .if2 .taken)) refl refl
-
-records-fit-requires : tie.Need-records-fit-requires
-records-fit-requires c κs = search needs
 
 returns-3 : tie.Need-returns-3
 returns-3 c = judge-by _ (c .before .before .before .before .before .before .is-record .ensures) (not-false _ (c .before .before .before .before .before .if1 .left)) (c .before .before .before .before .counts-of .ensures .0) (c .before .before .before .fit .ensures) (not-false _ (c .before .before .if2 .left)) (c .before .records-fit .ensures) (not-true _ (c .if3 .taken))
@@ -40,12 +28,12 @@ pub judge-map-spec : {M : Type 1} → statement M
 judge-map-spec =
     tie.close
     (tie.spec
-    is-record-requires
+    (search needs)
     returns
-    counts-of-requires
-    fit-requires
+    (search needs)
+    (search needs)
     returns-2
-    records-fit-requires
+    (search needs)
     returns-3
     judge-shown-requires
     returns-4)

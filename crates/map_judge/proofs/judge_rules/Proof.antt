@@ -4,8 +4,8 @@ use mathlib.Core.Path.{refl, sym, _∙_}
 use native.Mathlib.Omega.{arith}
 use borrow.Author.Needs.{needs}
 use borrow.Author.Tests.{not-true, not-false}
-use Rattle.map_parts.proofs.Counting.{clear}
-use Rattle.map_borders.proofs.Lifting.{high}
+use lib.ListN.{getD-replicate}
+use Rattle.words.proofs.Lists.{all-same}
 use Rattle.map_judge.proofs.Rules.{rules-by, roads-known, given-of, borders-known, each-few, sound-by}
 use Rattle.map_judge.proofs.judge_rules.Statement.{statement}
 use Rattle.map_judge.proofs.judge_rules.Tie as tie
@@ -16,14 +16,11 @@ parts-fit-requires c κs = (omega (arith, c .before .before .before .pre .vertic
 returns : tie.Need-returns
 returns c = λ m shows roads. rules-by m (sym (c .before .parts-fit .ensures m shows) ∙ not-true _ (c .if1 .taken)) refl refl
 
-roads-fit-requires : tie.Need-roads-fit-requires
-roads-fit-requires c κs = search needs
-
 returns-2 : tie.Need-returns-2
 returns-2 c = λ m shows roads. rules-by m (sym (c .before .before .before .parts-fit .ensures m shows) ∙ not-false _ (c .before .before .if1 .left)) (roads-known m _ _ _ (shows .vertexCount) roads (c .before .roads-fit .ensures) (not-true _ (c .if2 .taken))) refl
 
 measure-requires : tie.Need-measure-requires
-measure-requires c κs = (c .before .before .before .before .before .before .before .before .before .pre .vertices, refl, high 4096, refl, clear 512)
+measure-requires c κs = (c .before .before .before .before .before .before .before .before .before .pre .vertices, refl, λ v h. getD-replicate 4096 v 65535 0 h, refl, λ p. all-same 512 p 0)
 
 sizes-fit-requires : tie.Need-sizes-fit-requires
 sizes-fit-requires c κs = (c .before .measure .ensures .1, c .before .before .before .before .before .before .before .before .before .before .before .pre .parts)
@@ -53,7 +50,7 @@ judge-rules-spec =
     (tie.spec
     parts-fit-requires
     returns
-    roads-fit-requires
+    (search needs)
     returns-2
     measure-requires
     sizes-fit-requires

@@ -13,18 +13,6 @@ use Rattle.map_judge.proofs.judge_shown.Tie as tie
 show-parts-requires : tie.Need-show-parts-requires
 show-parts-requires c κs = (c .before .before .before .pre, refl, refl)
 
-slice-aggregate-judge-rules : tie.Need-slice-aggregate-judge-rules
-slice-aggregate-judge-rules c = search needs
-
-slice-aggregate-judge-rules-2 : tie.Need-slice-aggregate-judge-rules-2
-slice-aggregate-judge-rules-2 c = search needs
-
-roads-at-requires : tie.Need-roads-at-requires
-roads-at-requires c κs = search needs
-
-rest-requires : tie.Need-rest-requires
-rest-requires c κs = search needs
-
 judge-rules-requires : tie.Need-judge-rules-requires
 judge-rules-requires c κs = c .before .before .before .before .before .before .before .before .pre
 
@@ -38,9 +26,9 @@ judge-shown-spec =
     tie.close
     (tie.spec
     show-parts-requires
-    slice-aggregate-judge-rules
-    slice-aggregate-judge-rules-2
-    roads-at-requires
-    rest-requires
+    (search needs)
+    (search needs)
+    (search needs)
+    (search needs)
     judge-rules-requires
     returns)

@@ -10,12 +10,6 @@ use Rattle.map_judge.proofs.Shown.{limited, given-by, not-judged}
 use Rattle.map_judge.proofs.measure_map.Statement.{statement}
 use Rattle.map_judge.proofs.measure_map.Tie as tie
 
-counts-of-requires : tie.Need-counts-of-requires
-counts-of-requires c κs = search needs
-
-fit-requires : tie.Need-fit-requires
-fit-requires c κs = search needs
-
 returns : tie.Need-returns
 returns c = (
   c .before .before .before .before .pre .0,
@@ -25,18 +19,6 @@ returns c = (
 
 show-parts-requires : tie.Need-show-parts-requires
 show-parts-requires c κs = (limited _ _ _ (sym (c .before .before .before .fit .ensures) ∙ not-false _ (c .before .before .if1 .left)), refl, refl)
-
-roads-at-requires : tie.Need-roads-at-requires
-roads-at-requires c κs = search needs
-
-rest-requires : tie.Need-rest-requires
-rest-requires c κs = search needs
-
-slice-aggregate-measure : tie.Need-slice-aggregate-measure
-slice-aggregate-measure c = search needs
-
-slice-aggregate-measure-2 : tie.Need-slice-aggregate-measure-2
-slice-aggregate-measure-2 c = search needs
 
 measure-requires : tie.Need-measure-requires
 measure-requires c κs = (
@@ -61,13 +43,13 @@ pub measure-map-spec : {M : Type 1} → statement M
 measure-map-spec =
     tie.close
     (tie.spec
-    counts-of-requires
-    fit-requires
+    (search needs)
+    (search needs)
     returns
     show-parts-requires
-    roads-at-requires
-    rest-requires
-    slice-aggregate-measure
-    slice-aggregate-measure-2
+    (search needs)
+    (search needs)
+    (search needs)
+    (search needs)
     measure-requires
     returns-2)

@@ -42,9 +42,6 @@ loop-holds c = summing-start (c .pre .0) (c .pre .1) (c .pre .2) refl
 cast-size : tie.Need-cast-size Inv-loop μ-loop
 cast-size c = omega (arith, c .before .loop .inv .limits .parts)
 
-mul-size : tie.Need-mul-size Inv-loop μ-loop
-mul-size c = search needs
-
 element-copy-out-size : tie.Need-element-copy-out-size Inv-loop μ-loop
 element-copy-out-size c = omega (arith, c .before .loop .inv .limits .parts, c .before .loop .inv .room)
 
@@ -71,9 +68,6 @@ add-words-6 c =
 add-p : tie.Need-add-p Inv-loop μ-loop
 add-p c = omega (arith, c .before .before .loop .inv .limits .parts)
 
-loop-less : tie.Need-loop-less Inv-loop μ-loop
-loop-less c = omega arith
-
 loop-again : tie.Need-loop-again Inv-loop μ-loop
 loop-again c = summing-step _ (c .before .before .loop .inv) (c .before .loop-test .taken)
 
@@ -95,13 +89,13 @@ need-spec =
     add-words-4
     loop-holds
     cast-size
-    mul-size
+    (search needs)
     element-copy-out-size
     mul-words-4
     mul-words-5
     add-words-5
     add-words-6
     add-p
-    loop-less
+    (search needs)
     loop-again
     returns)

@@ -7,12 +7,6 @@ use borrow.Author.Needs.{needs}
 use Rattle.map_judge.proofs.parts_of_map.Statement.{statement}
 use Rattle.map_judge.proofs.parts_of_map.Tie as tie
 
-counts-of-requires : tie.Need-counts-of-requires
-counts-of-requires c κs = search needs
-
-fit-requires : tie.Need-fit-requires
-fit-requires c κs = search needs
-
 returns : tie.Need-returns
 returns c = (
   c .before .before .before .before .pre .0,
@@ -32,4 +26,4 @@ returns-2 c = (
 
 pub parts-of-map-spec : {M : Type 1} → statement M
 parts-of-map-spec =
-    tie.close (tie.spec counts-of-requires fit-requires returns show-parts-requires returns-2)
+    tie.close (tie.spec (search needs) (search needs) returns show-parts-requires returns-2)

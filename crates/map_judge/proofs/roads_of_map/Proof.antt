@@ -8,17 +8,8 @@ use borrow.Author.Needs.{needs}
 use Rattle.map_judge.proofs.roads_of_map.Statement.{statement}
 use Rattle.map_judge.proofs.roads_of_map.Tie as tie
 
-counts-of-requires : tie.Need-counts-of-requires
-counts-of-requires c κs = search needs
-
-roads-at-requires : tie.Need-roads-at-requires
-roads-at-requires c κs = search needs
-
-rest-requires : tie.Need-rest-requires
-rest-requires c κs = search needs
-
 returns : tie.Need-returns
 returns c m judged = roads-of _ m _ _ _ judged (c .before .before .counts-of .ensures .0) (c .rest .ensures ∙ ap (λ (at : ℕ). drop at (c .before .before .before .before .args .map .now)) (c .before .roads-at .ensures))
 
 pub roads-of-map-spec : {M : Type 1} → statement M
-roads-of-map-spec = tie.close (tie.spec counts-of-requires roads-at-requires rest-requires returns)
+roads-of-map-spec = tie.close (tie.spec (search needs) (search needs) (search needs) returns)

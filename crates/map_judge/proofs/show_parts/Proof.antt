@@ -3,28 +3,12 @@
 use mathlib.Core.Path.{ap, _∙_}
 use mathlib.Core.List.{List}
 use Prim.Native.Nat.{ℕ}
-use native.Mathlib.Omega.{arith}
 use lib.ListN.{drop}
 use borrow.Author.Needs.{needs}
 use Rattle.map_judge.specs.Asked.{asked}
 use Rattle.map_judge.proofs.Shown.{shows-by}
 use Rattle.map_judge.proofs.show_parts.Statement.{statement}
 use Rattle.map_judge.proofs.show_parts.Tie as tie
-
-rest-requires : tie.Need-rest-requires
-rest-requires c κs = search needs
-
-copy-numbers-requires : tie.Need-copy-numbers-requires
-copy-numbers-requires c κs = search needs
-
-leaves-at-requires : tie.Need-leaves-at-requires
-leaves-at-requires c κs = search needs
-
-rest-requires-2 : tie.Need-rest-requires-2
-rest-requires-2 c κs = search needs
-
-copy-numbers-requires-2 : tie.Need-copy-numbers-requires-2
-copy-numbers-requires-2 c κs = search needs
 
 returns : tie.Need-returns
 returns c = (
@@ -39,9 +23,9 @@ pub show-parts-spec : {M : Type 1} → statement M
 show-parts-spec =
     tie.close
     (tie.spec
-    rest-requires
-    copy-numbers-requires
-    leaves-at-requires
-    rest-requires-2
-    copy-numbers-requires-2
+    (search needs)
+    (search needs)
+    (search needs)
+    (search needs)
+    (search needs)
     returns)

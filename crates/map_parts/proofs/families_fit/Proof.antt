@@ -2,7 +2,6 @@
 -- Assumes nothing.
 use Prim.Native.Nat.{_-_}
 use mathlib.Core.Path.{sym, _∙_}
-use native.Mathlib.Omega.{arith}
 use borrow.Author.Needs.{needs}
 use borrow.Author.Tests.{not-true, not-false}
 use Rattle.map_bytes.proofs.Each.{Left, left-start, left-passed, left-failed, left-done}
@@ -19,33 +18,9 @@ abbrev μ-loop : tie.MeasureT-loop
 loop-holds : tie.Need-loop-holds Inv-loop μ-loop
 loop-holds c = left-start
 
-cast-at : tie.Need-cast-at Inv-loop μ-loop
-cast-at c = search needs
-
-mul-t8 : tie.Need-mul-t8 Inv-loop μ-loop
-mul-t8 c = search needs
-
-element-copy-out-t11 : tie.Need-element-copy-out-t11 Inv-loop μ-loop
-element-copy-out-t11 c = omega arith
-
-mul-t12 : tie.Need-mul-t12 Inv-loop μ-loop
-mul-t12 c = search needs
-
-element-copy-out-t15 : tie.Need-element-copy-out-t15 Inv-loop μ-loop
-element-copy-out-t15 c = omega arith
-
-fits-requires : tie.Need-fits-requires Inv-loop μ-loop
-fits-requires c κs = search needs
-
 returns : tie.Need-returns Inv-loop μ-loop
 unfolding familyOf
 returns c = left-failed _ (c .before .before .before .before .before .loop .inv) (c .before .before .before .before .loop-test .taken) (sym (c .before .fits2 .ensures) ∙ not-true _ (c .if1 .taken))
-
-add-p : tie.Need-add-p Inv-loop μ-loop
-add-p c = omega arith
-
-loop-less : tie.Need-loop-less Inv-loop μ-loop
-loop-less c = omega arith
 
 loop-again : tie.Need-loop-again Inv-loop μ-loop
 unfolding familyOf
@@ -61,14 +36,14 @@ families-fit-spec =
     Inv-loop
     μ-loop
     loop-holds
-    cast-at
-    mul-t8
-    element-copy-out-t11
-    mul-t12
-    element-copy-out-t15
-    fits-requires
+    (search needs)
+    (search needs)
+    (search needs)
+    (search needs)
+    (search needs)
+    (search needs)
     returns
-    add-p
-    loop-less
+    (search needs)
+    (search needs)
     loop-again
     returns-2)

@@ -1,7 +1,6 @@
 -- `near_root` goes up, at most 16 parts.
 -- Assumes nothing.
 use mathlib.Core.Path.{_≡_, refl, sym, _∙_}
-use native.Mathlib.Omega.{arith}
 use borrow.Author.Needs.{needs}
 use Rattle.map_parts.specs.Part.{near}
 use Rattle.map_parts.proofs.Near.{near-none, near-here, near-above}
@@ -20,15 +19,6 @@ loop-holds c = refl
 returns : tie.Need-returns Inv-loop μ-loop
 returns c = sym (c .before .before .loop .inv ∙ near-here _ _ _ (c .before .loop-test .taken) (c .if1 .taken))
 
-entry-requires : tie.Need-entry-requires Inv-loop μ-loop
-entry-requires c κs = search needs
-
-sub-left : tie.Need-sub-left Inv-loop μ-loop
-sub-left c = omega arith
-
-loop-less : tie.Need-loop-less Inv-loop μ-loop
-loop-less c = omega arith
-
 loop-again : tie.Need-loop-again Inv-loop μ-loop
 loop-again c = c .before .before .before .loop .inv ∙ near-above _ _ _ _ (c .before .before .loop-test .taken) (c .before .if1 .left) (c .entry .ensures)
 
@@ -43,8 +33,8 @@ near-root-spec =
     μ-loop
     loop-holds
     returns
-    entry-requires
-    sub-left
-    loop-less
+    (search needs)
+    (search needs)
+    (search needs)
     loop-again
     returns-2)

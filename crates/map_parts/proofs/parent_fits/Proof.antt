@@ -20,11 +20,8 @@ parts parents p isRoot isParent = λ i. sym isRoot i || ltb (isParent i) p
 returns : tie.Need-returns
 returns c = parts _ _ (eq-eqb _ _ (c .if1 .taken)) refl
 
-entry-requires : tie.Need-entry-requires
-entry-requires c κs = search needs
-
 returns-2 : tie.Need-returns-2
 returns-2 c = parts _ _ (ne-eqb _ _ (c .before .if1 .left)) (c .entry .ensures)
 
 pub parent-fits-spec : {M : Type 1} → statement M
-parent-fits-spec = tie.close (tie.spec returns entry-requires returns-2)
+parent-fits-spec = tie.close (tie.spec returns (search needs) returns-2)

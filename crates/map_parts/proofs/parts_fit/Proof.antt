@@ -6,8 +6,8 @@ use native.Mathlib.Omega.{arith}
 use mathlib.Core.Bool.{Bool}
 use lib.Dec.{eqb}
 use Rattle.words.specs.Limits.{NONE}
+use Rattle.words.proofs.Lists.{all-same}
 use borrow.Author.Tests.{eq-eqb, ne-eqb, not-true, not-false}
-use Rattle.map_parts.proofs.Counting.{clear}
 use Rattle.map_parts.proofs.Fits.{no-root, no-fall, parts-fit-is}
 use borrow.Author.Needs.{needs}
 use Rattle.map_parts.proofs.parts_fit.Statement.{statement}
@@ -17,14 +17,8 @@ use Rattle.map_parts.proofs.parts_fit.Tie as tie
 at-root : {x y : ℕ} {b : Bool} → x ≡ y → eqb x NONE ≡ b → eqb y NONE ≡ b
 at-root is e = sym (ap (λ (n : ℕ). eqb n NONE) is) ∙ e
 
-entry-requires : tie.Need-entry-requires
-entry-requires c κs = search needs
-
 returns : tie.Need-returns
 returns c m shows = no-root m _ _ _ _ shows (c .before .before .before .before .pre .1) (at-root (c .before .entry .ensures) (ne-eqb _ _ (c .if1 .taken)))
-
-parents-fit-requires : tie.Need-parents-fit-requires
-parents-fit-requires c κs = search needs
 
 returns-2 : tie.Need-returns-2
 returns-2 c m shows =
@@ -32,13 +26,10 @@ returns-2 c m shows =
     (sym (c .before .parents-fit .ensures) ∙ not-true _ (c .if2 .taken))
 
 tally-requires : tie.Need-tally-requires
-tally-requires c κs = (refl, clear 512, omega arith)
+tally-requires c κs = (refl, λ p. all-same 512 p 0, omega arith)
 
 tally-requires-2 : tie.Need-tally-requires-2
-tally-requires-2 c κs = (refl, clear 512, omega arith)
-
-families-fit-requires : tie.Need-families-fit-requires
-families-fit-requires c κs = search needs
+tally-requires-2 c κs = (refl, λ p. all-same 512 p 0, omega arith)
 
 returns-3 : tie.Need-returns-3
 returns-3 c m shows =
@@ -47,9 +38,6 @@ returns-3 c m shows =
     (sym (c .before .before .before .before .before .before .before .before .before .parents-fit .ensures) ∙ not-false _ (c .before .before .before .before .before .before .before .before .if2 .left))
     (sym (c .before .families-fit .ensures) ∙ not-true _ (c .if3 .taken)) refl refl
 
-levels-fit-requires : tie.Need-levels-fit-requires
-levels-fit-requires c κs = search needs
-
 returns-4 : tie.Need-returns-4
 returns-4 c m shows =
     parts-fit-is m _ _ _ _ shows _ _ (c .before .before .before .before .before .before .before .before .tally .ensures) (c .before .before .before .before .before .before .tally2 .ensures) (c .before .before .before .before .before .before .before .before .before .before .before .before .before .before .before .before .pre .2) (c .before .before .before .before .before .before .before .before .before .before .before .before .before .before .before .before .pre .1)
@@ -57,9 +45,6 @@ returns-4 c m shows =
     (sym (c .before .before .before .before .before .before .before .before .before .before .before .parents-fit .ensures) ∙ not-false _ (c .before .before .before .before .before .before .before .before .before .before .if2 .left))
     (sym (c .before .before .before .families-fit .ensures) ∙ not-false _ (c .before .before .if3 .left))
     (sym (c .before .levels-fit .ensures) ∙ not-true _ (c .if4 .taken)) refl
-
-vertices-stand-requires : tie.Need-vertices-stand-requires
-vertices-stand-requires c κs = search needs
 
 returns-5 : tie.Need-returns-5
 returns-5 c m shows =
@@ -74,15 +59,15 @@ pub parts-fit-spec : {M : Type 1} → statement M
 parts-fit-spec =
     tie.close
     (tie.spec
-    entry-requires
+    (search needs)
     returns
-    parents-fit-requires
+    (search needs)
     returns-2
     tally-requires
     tally-requires-2
-    families-fit-requires
+    (search needs)
     returns-3
-    levels-fit-requires
+    (search needs)
     returns-4
-    vertices-stand-requires
+    (search needs)
     returns-5)

@@ -19,20 +19,8 @@ parts : (leaves children : List ℕ) (count v : ℕ) {leaf : ℕ} {real : Bool} 
 unfolding standing
 parts leaves children count v {leaf} is p = ap (λ (b : Bool). b && eqb (getD children leaf 0) 0) (sym p) ∙ λ i. ltb (is i) count && eqb (getD children (is i) 0) 0
 
-entry-requires : tie.Need-entry-requires
-entry-requires c κs = search needs
-
 returns : tie.Need-returns
 returns c = parts _ _ _ _ (c .before .entry .ensures) (le-ltb _ _ (c .if1 .taken))
-
-cast-result : tie.Need-cast-result
-cast-result c = search needs
-
-mul-result : tie.Need-mul-result
-mul-result c = search needs
-
-element-copy-out-result : tie.Need-element-copy-out-result
-element-copy-out-result c = search needs
 
 returns-2 : tie.Need-returns-2
 returns-2 c = parts _ _ _ _ (c .before .before .entry .ensures) (lt-ltb _ _ (c .before .if1 .left))
@@ -40,4 +28,4 @@ returns-2 c = parts _ _ _ _ (c .before .before .entry .ensures) (lt-ltb _ _ (c .
 pub stands-spec : {M : Type 1} → statement M
 stands-spec =
     tie.close
-    (tie.spec entry-requires returns cast-result mul-result element-copy-out-result returns-2)
+    (tie.spec (search needs) returns (search needs) (search needs) (search needs) returns-2)

@@ -7,26 +7,11 @@ use Rattle.map_roads.proofs.Roads.{road-test-by}
 use Rattle.map_roads.proofs.road_fits.Statement.{statement}
 use Rattle.map_roads.proofs.road_fits.Tie as tie
 
-read-requires : tie.Need-read-requires
-read-requires c κs = search needs
-
-fits-requires : tie.Need-fits-requires
-fits-requires c κs = search needs
-
 returns : tie.Need-returns
 returns c = road-test-by _ _ _ (c .before .before .read .ensures) (c .before .fits2 .ensures) (not-true _ (c .if1 .taken)) refl refl refl
 
 returns-2 : tie.Need-returns-2
 returns-2 c = road-test-by _ _ _ (c .before .before .before .read .ensures) (c .before .before .fits2 .ensures) (not-false _ (c .before .if1 .left)) (eq-eqb _ _ (c .if2 .taken)) refl refl
-
-sub-read : tie.Need-sub-read
-sub-read c = search needs
-
-read-requires-2 : tie.Need-read-requires-2
-read-requires-2 c κs = search needs
-
-comes-before-requires : tie.Need-comes-before-requires
-comes-before-requires c κs = search needs
 
 returns-3 : tie.Need-returns-3
 returns-3 c =
@@ -37,11 +22,11 @@ pub road-fits-spec : {M : Type 1} → statement M
 road-fits-spec =
     tie.close
     (tie.spec
-    read-requires
-    fits-requires
+    (search needs)
+    (search needs)
     returns
     returns-2
-    sub-read
-    read-requires-2
-    comes-before-requires
+    (search needs)
+    (search needs)
+    (search needs)
     returns-3)

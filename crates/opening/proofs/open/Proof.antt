@@ -5,24 +5,9 @@ use borrow.Author.Needs.{needs}
 use Rattle.opening.proofs.open.Statement.{statement}
 use Rattle.opening.proofs.open.Tie as tie
 
-judge-map-requires : tie.Need-judge-map-requires
-judge-map-requires c κs = search needs
-
-enum-known-judgement : tie.Need-enum-known-judgement
-enum-known-judgement c = search needs
-
 open-sound-requires : tie.Need-open-sound-requires
 open-sound-requires c κs =
     counts-small (told-sound (c .before .before .before .before .before .before .before .args .map .now) _ _ _ (c .before .before .before .before .judge-map .ensures) (c .before .before .judgement .given .1))
-
-enum-known-judgement-2 : tie.Need-enum-known-judgement-2
-enum-known-judgement-2 c = search needs
-
-refused-map-requires : tie.Need-refused-map-requires
-refused-map-requires c κs = search needs
-
-same-length : tie.Need-same-length
-same-length c = search needs
 
 returns : tie.Need-returns
 returns c =
@@ -46,11 +31,11 @@ pub open-spec : {M : Type 1} → statement M
 open-spec =
     tie.close
     (tie.spec
-    judge-map-requires
-    enum-known-judgement
+    (search needs)
+    (search needs)
     open-sound-requires
-    enum-known-judgement-2
-    refused-map-requires
-    same-length
+    (search needs)
+    (search needs)
+    (search needs)
     returns
     returns-2)

@@ -8,9 +8,6 @@ use borrow.Author.Needs.{needs}
 use Rattle.opening.proofs.open_sound.Statement.{statement}
 use Rattle.opening.proofs.open_sound.Tie as tie
 
-wide-requires : tie.Need-wide-requires
-wide-requires c κs = search needs
-
 returns : tie.Need-returns
 returns c =
     let args = c .before .before .before .before .args in
@@ -18,17 +15,8 @@ returns c =
     let if1 = c .if1 in
     λ m judged counted. opened-small (args .map .now) (args .memory .now) (args .start) m _ judged (wide .ensures ∙ counted .need-is) (if1 .taken)
 
-slice-relend-prefix-write-memory : tie.Need-slice-relend-prefix-write-memory
-slice-relend-prefix-write-memory c = search needs
-
 slice-aggregate-write-memory : tie.Need-slice-aggregate-write-memory
 slice-aggregate-write-memory c = sym (length-take-le _ _ (omega arith))
-
-write-memory-requires : tie.Need-write-memory-requires
-write-memory-requires c κs = search needs
-
-same-length : tie.Need-same-length
-same-length c = search needs
 
 returns-2 : tie.Need-returns-2
 returns-2 c =
@@ -44,10 +32,10 @@ pub open-sound-spec : {M : Type 1} → statement M
 open-sound-spec =
     tie.close
     (tie.spec
-    wide-requires
+    (search needs)
     returns
-    slice-relend-prefix-write-memory
+    (search needs)
     slice-aggregate-write-memory
-    write-memory-requires
-    same-length
+    (search needs)
+    (search needs)
     returns-2)

@@ -6,15 +6,6 @@ use borrow.Author.Needs.{needs}
 use Rattle.opening.proofs.write_memory.Statement.{statement}
 use Rattle.opening.proofs.write_memory.Tie as tie
 
-write-map-requires : tie.Need-write-map-requires
-write-map-requires c κs = search needs
-
-fill-tables-requires : tie.Need-fill-tables-requires
-fill-tables-requires c κs = search needs
-
-same-length : tie.Need-same-length
-same-length c = search needs
-
 returns : tie.Need-returns
 returns c =
     let args = c .before .before .before .before .before .before .before .before .before .before .args in
@@ -26,4 +17,4 @@ returns c =
 
 pub write-memory-spec : {M : Type 1} → statement M
 write-memory-spec =
-    tie.close (tie.spec write-map-requires fill-tables-requires same-length returns)
+    tie.close (tie.spec (search needs) (search needs) (search needs) returns)

@@ -1,25 +1,16 @@
 -- `write_given` measures the map and writes its sections.
 -- Assumes nothing.
 use native.Mathlib.Omega.{arith}
-use Rattle.opening_map.proofs.Given.{shown-by, all-long, all-same, zeros-all}
+use Prim.Native.Nat.{ℕ}
+use lib.ListN.{length-replicate, getD-replicate}
+use Rattle.words.proofs.Lists.{all-same}
+use Rattle.opening_map.proofs.Given.{shown-by}
 use borrow.Author.Needs.{needs}
 use Rattle.opening_map.proofs.write_given.Statement.{statement}
 use Rattle.opening_map.proofs.write_given.Tie as tie
 
 measure-requires : tie.Need-measure-requires
-measure-requires c κs = (omega arith, all-long 4096 65535, all-same 4096 65535, all-long 512 0, zeros-all 512)
-
-slice-aggregate-write-sections : tie.Need-slice-aggregate-write-sections
-slice-aggregate-write-sections c = search needs
-
-slice-aggregate-write-sections-2 : tie.Need-slice-aggregate-write-sections-2
-slice-aggregate-write-sections-2 c = search needs
-
-write-sections-requires : tie.Need-write-sections-requires
-write-sections-requires c κs = search needs
-
-same-length : tie.Need-same-length
-same-length c = search needs
+measure-requires c κs = (omega arith, length-replicate {A = ℕ} 4096 65535, λ v h. getD-replicate 4096 v 65535 0 h, length-replicate {A = ℕ} 512 0, λ q. all-same 512 q 0)
 
 returns : tie.Need-returns
 returns c =
@@ -36,8 +27,8 @@ write-given-spec =
     tie.close
     (tie.spec
     measure-requires
-    slice-aggregate-write-sections
-    slice-aggregate-write-sections-2
-    write-sections-requires
-    same-length
+    (search needs)
+    (search needs)
+    (search needs)
+    (search needs)
     returns)

@@ -7,66 +7,6 @@ use borrow.Author.Needs.{needs}
 use Rattle.opening_map.proofs.write_map.Statement.{statement}
 use Rattle.opening_map.proofs.write_map.Tie as tie
 
-cast-leaves-at : tie.Need-cast-leaves-at
-cast-leaves-at c = search needs
-
-mul-leaves-at : tie.Need-mul-leaves-at
-mul-leaves-at c = search needs
-
-add-leaves-at : tie.Need-add-leaves-at
-add-leaves-at c = search needs
-
-cast-roads-at : tie.Need-cast-roads-at
-cast-roads-at c = search needs
-
-mul-roads-at : tie.Need-mul-roads-at
-mul-roads-at c = search needs
-
-add-roads-at : tie.Need-add-roads-at
-add-roads-at c = search needs
-
-cast-roads-at-2 : tie.Need-cast-roads-at-2
-cast-roads-at-2 c = search needs
-
-mul-roads-at-2 : tie.Need-mul-roads-at-2
-mul-roads-at-2 c = search needs
-
-add-roads-at-2 : tie.Need-add-roads-at-2
-add-roads-at-2 c = search needs
-
-rest-requires : tie.Need-rest-requires
-rest-requires c κs = search needs
-
-slice-aggregate-copy-numbers : tie.Need-slice-aggregate-copy-numbers
-slice-aggregate-copy-numbers c = search needs
-
-copy-numbers-requires : tie.Need-copy-numbers-requires
-copy-numbers-requires c κs = search needs
-
-rest-requires-2 : tie.Need-rest-requires-2
-rest-requires-2 c κs = search needs
-
-slice-aggregate-copy-numbers-2 : tie.Need-slice-aggregate-copy-numbers-2
-slice-aggregate-copy-numbers-2 c = search needs
-
-copy-numbers-requires-2 : tie.Need-copy-numbers-requires-2
-copy-numbers-requires-2 c κs = search needs
-
-slice-aggregate-write-given : tie.Need-slice-aggregate-write-given
-slice-aggregate-write-given c = search needs
-
-slice-aggregate-write-given-2 : tie.Need-slice-aggregate-write-given-2
-slice-aggregate-write-given-2 c = search needs
-
-rest-requires-3 : tie.Need-rest-requires-3
-rest-requires-3 c κs = search needs
-
-write-given-requires : tie.Need-write-given-requires
-write-given-requires c κs = search needs
-
-same-length : tie.Need-same-length
-same-length c = search needs
-
 returns : tie.Need-returns
 returns c =
     let args = c .before .before .before .before .before .before .before .before .before .before .before .before .before .before .before .before .before .args in
@@ -85,24 +25,24 @@ pub write-map-spec : {M : Type 1} → statement M
 write-map-spec =
     tie.close
     (tie.spec
-    cast-leaves-at
-    mul-leaves-at
-    add-leaves-at
-    cast-roads-at
-    mul-roads-at
-    add-roads-at
-    cast-roads-at-2
-    mul-roads-at-2
-    add-roads-at-2
-    rest-requires
-    slice-aggregate-copy-numbers
-    copy-numbers-requires
-    rest-requires-2
-    slice-aggregate-copy-numbers-2
-    copy-numbers-requires-2
-    slice-aggregate-write-given
-    slice-aggregate-write-given-2
-    rest-requires-3
-    write-given-requires
-    same-length
+    (search needs)
+    (search needs)
+    (search needs)
+    (search needs)
+    (search needs)
+    (search needs)
+    (search needs)
+    (search needs)
+    (search needs)
+    (search needs)
+    (search needs)
+    (search needs)
+    (search needs)
+    (search needs)
+    (search needs)
+    (search needs)
+    (search needs)
+    (search needs)
+    (search needs)
+    (search needs)
     returns)

@@ -22,27 +22,6 @@ loop-holds c =
     let args = c .before .args in
     (omega arith, λ m given. rows-last m (args .sizes .now) (args .parts) (args .rows-end) given)
 
-sub-p : tie.Need-sub-p Inv-loop μ-loop
-sub-p c = omega arith
-
-wide-requires : tie.Need-wide-requires Inv-loop μ-loop
-wide-requires c κs = search needs
-
-word-requires : tie.Need-word-requires Inv-loop μ-loop
-word-requires c κs = search needs
-
-limited-requires : tie.Need-limited-requires Inv-loop μ-loop
-limited-requires c κs = search needs
-
-mul-start-of : tie.Need-mul-start-of Inv-loop μ-loop
-mul-start-of c = omega arith
-
-start-of-requires : tie.Need-start-of-requires Inv-loop μ-loop
-start-of-requires c κs = search needs
-
-loop-less : tie.Need-loop-less Inv-loop μ-loop
-loop-less c = omega arith
-
 loop-again : tie.Need-loop-again Inv-loop μ-loop
 loop-again c =
     let args = c .before .before .before .before .before .before .before .args in
@@ -71,12 +50,12 @@ rows-begin-spec =
     Inv-loop
     μ-loop
     loop-holds
-    sub-p
-    wide-requires
-    word-requires
-    limited-requires
-    mul-start-of
-    start-of-requires
-    loop-less
+    (search needs)
+    (search needs)
+    (search needs)
+    (search needs)
+    (search needs)
+    (search needs)
+    (search needs)
     loop-again
     returns)

@@ -26,56 +26,8 @@ loop-holds c =
     let args = c .before .before .before .before .args in
     (omega arith, refl, refl, λ m ready. (families-none m (args .parents .now) (args .sizes .now) (args .parts) (args .tables-end) (args .rows-end) (args .children .now) (args .mem .now) ready, parts-none m (args .parents .now) (args .sizes .now) (args .parts) (args .tables-end) (args .rows-end) (args .children .now) (args .mem .now) ready))
 
-sub-p : tie.Need-sub-p Inv-loop μ-loop
-sub-p c = omega arith
-
-wide-requires : tie.Need-wide-requires Inv-loop μ-loop
-wide-requires c κs = search needs
-
-word-requires : tie.Need-word-requires Inv-loop μ-loop
-word-requires c κs = search needs
-
-limited-requires : tie.Need-limited-requires Inv-loop μ-loop
-limited-requires c κs = search needs
-
 mul-start-of : tie.Need-mul-start-of Inv-loop μ-loop
 mul-start-of c = record { fits = square-fits _ (c .limited .ensures .0) }
-
-start-of-requires : tie.Need-start-of-requires Inv-loop μ-loop
-start-of-requires c κs = search needs
-
-mul-start-of-2 : tie.Need-mul-start-of-2 Inv-loop μ-loop
-mul-start-of-2 c = omega arith
-
-start-of-requires-2 : tie.Need-start-of-requires-2 Inv-loop μ-loop
-start-of-requires-2 c κs = search needs
-
-wide-requires-2 : tie.Need-wide-requires-2 Inv-loop μ-loop
-wide-requires-2 c κs = search needs
-
-word-requires-2 : tie.Need-word-requires-2 Inv-loop μ-loop
-word-requires-2 c κs = search needs
-
-wide-requires-3 : tie.Need-wide-requires-3 Inv-loop μ-loop
-wide-requires-3 c κs = search needs
-
-word-requires-3 : tie.Need-word-requires-3 Inv-loop μ-loop
-word-requires-3 c κs = search needs
-
-adopt-requires : tie.Need-adopt-requires Inv-loop μ-loop
-adopt-requires c κs = search needs
-
-mul-write-part : tie.Need-mul-write-part Inv-loop μ-loop
-mul-write-part c = omega arith
-
-add-write-part : tie.Need-add-write-part Inv-loop μ-loop
-add-write-part c = omega arith
-
-write-part-requires : tie.Need-write-part-requires Inv-loop μ-loop
-write-part-requires c κs = search needs
-
-loop-less : tie.Need-loop-less Inv-loop μ-loop
-loop-less c = omega arith
 
 loop-again : tie.Need-loop-again Inv-loop μ-loop
 loop-again c =
@@ -130,23 +82,23 @@ write-parts-spec =
     Inv-loop
     μ-loop
     loop-holds
-    sub-p
-    wide-requires
-    word-requires
-    limited-requires
+    (search needs)
+    (search needs)
+    (search needs)
+    (search needs)
     mul-start-of
-    start-of-requires
-    mul-start-of-2
-    start-of-requires-2
-    wide-requires-2
-    word-requires-2
-    wide-requires-3
-    word-requires-3
-    adopt-requires
-    mul-write-part
-    add-write-part
-    write-part-requires
-    loop-less
+    (search needs)
+    (search needs)
+    (search needs)
+    (search needs)
+    (search needs)
+    (search needs)
+    (search needs)
+    (search needs)
+    (search needs)
+    (search needs)
+    (search needs)
+    (search needs)
     loop-again
     same-length
     same-length-2

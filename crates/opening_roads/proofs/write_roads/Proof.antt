@@ -1,5 +1,6 @@
 -- `write_roads` writes each road in front of those after it.
 -- Assumes nothing.
+use borrow.Author.Needs.{needs}
 use mathlib.Core.Path.{_≡_, refl, subst, _∙_}
 use Prim.Native.Nat.{ℕ, _-_, _≤_}
 use native.Mathlib.Omega.{arith}
@@ -21,21 +22,6 @@ loop-holds : tie.Need-loop-holds Inv-loop μ-loop
 loop-holds c =
     let args = c .before .before .before .args in
     (omega arith, refl, refl, λ m ready. roads-none m (args .body .now) (args .roads) (args .base) (args .ins .now) (args .mem .now) ready)
-
-sub-i : tie.Need-sub-i Inv-loop μ-loop
-sub-i c = omega arith
-
-mul-write-road : tie.Need-mul-write-road Inv-loop μ-loop
-mul-write-road c = omega arith
-
-add-write-road : tie.Need-add-write-road Inv-loop μ-loop
-add-write-road c = omega arith
-
-write-road-requires : tie.Need-write-road-requires Inv-loop μ-loop
-write-road-requires c κs = omega arith
-
-loop-less : tie.Need-loop-less Inv-loop μ-loop
-loop-less c = omega arith
 
 loop-again : tie.Need-loop-again Inv-loop μ-loop
 loop-again c =
@@ -69,11 +55,11 @@ write-roads-spec =
     Inv-loop
     μ-loop
     loop-holds
-    sub-i
-    mul-write-road
-    add-write-road
-    write-road-requires
-    loop-less
+    (search needs)
+    (search needs)
+    (search needs)
+    (search needs)
+    (search needs)
     loop-again
     same-length
     same-length-2

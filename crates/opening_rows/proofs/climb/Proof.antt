@@ -27,9 +27,6 @@ loop-holds c =
     let args = c .before .before .before .args in
     (refl, refl, λ m start st s. climbing-start m (args .parents .now) (args .leaf) (args .lift) (args .v) (args .itself) st start (args .cursors .now) (args .mem .now) s)
 
-write-row-requires : tie.Need-write-row-requires Inv-loop μ-loop
-write-row-requires c κs = search needs
-
 same-length : tie.Need-same-length Inv-loop μ-loop
 same-length c =
     let loop = c .before .before .before .before .before .before .before .before .before .loop in
@@ -49,18 +46,6 @@ returns c =
     let write-row = c .before .before .before .before .before .write-row in
     let if1 = c .if1 in
     λ m start st s. climbing-end m (args .parents .now) (args .leaf) (args .lift) (args .v) (args .itself) st (loop .part) (loop .child) (loop .below) (loop .left) _ start (loop .cursors) _ (loop .mem) _ (loop .inv .2 m start st s) (write-row .ensures) (if1 .taken)
-
-wide-requires : tie.Need-wide-requires Inv-loop μ-loop
-wide-requires c κs = search needs
-
-word-requires : tie.Need-word-requires Inv-loop μ-loop
-word-requires c κs = search needs
-
-sub-left : tie.Need-sub-left Inv-loop μ-loop
-sub-left c = omega arith
-
-loop-less : tie.Need-loop-less Inv-loop μ-loop
-loop-less c = omega arith
 
 loop-again : tie.Need-loop-again Inv-loop μ-loop
 loop-again c =
@@ -94,14 +79,14 @@ climb-spec =
     Inv-loop
     μ-loop
     loop-holds
-    write-row-requires
+    (search needs)
     same-length
     same-length-2
     returns
-    wide-requires
-    word-requires
-    sub-left
-    loop-less
+    (search needs)
+    (search needs)
+    (search needs)
+    (search needs)
     loop-again
     same-length-3
     same-length-4

@@ -5,30 +5,6 @@ use borrow.Author.Needs.{needs}
 use Rattle.opening_rows.proofs.write_row.Statement.{statement}
 use Rattle.opening_rows.proofs.write_row.Tie as tie
 
-wide-requires : tie.Need-wide-requires
-wide-requires c κs = search needs
-
-word-requires : tie.Need-word-requires
-word-requires c κs = search needs
-
-own-requires : tie.Need-own-requires
-own-requires c κs = search needs
-
-put4-requires : tie.Need-put4-requires
-put4-requires c κs = search needs
-
-wrapping-add-u32-requires : tie.Need-wrapping-add-u32-requires
-wrapping-add-u32-requires c κs = search needs
-
-put-requires : tie.Need-put-requires
-put-requires c κs = search needs
-
-same-length : tie.Need-same-length
-same-length c = search needs
-
-same-length-2 : tie.Need-same-length-2
-same-length-2 c = search needs
-
 returns : tie.Need-returns
 returns c =
     let args = c .before .before .before .before .before .before .before .before .before .before .before .before .before .before .before .args in
@@ -44,12 +20,12 @@ pub write-row-spec : {M : Type 1} → statement M
 write-row-spec =
     tie.close
     (tie.spec
-    wide-requires
-    word-requires
-    own-requires
-    put4-requires
-    wrapping-add-u32-requires
-    put-requires
-    same-length
-    same-length-2
+    (search needs)
+    (search needs)
+    (search needs)
+    (search needs)
+    (search needs)
+    (search needs)
+    (search needs)
+    (search needs)
     returns)

@@ -27,36 +27,6 @@ loop-holds c =
     let args = c .before .before .before .before .before .args in
     (omega arith, refl, refl, λ m ready. rows-none m (args .parents .now) (args .leaves .now) (args .lifts .now) (args .vertices) (args .base) (args .cursors .now) (args .mem .now) ready)
 
-wide-requires : tie.Need-wide-requires Inv-loop μ-loop
-wide-requires c κs = search needs
-
-word-requires : tie.Need-word-requires Inv-loop μ-loop
-word-requires c κs = search needs
-
-wide-requires-2 : tie.Need-wide-requires-2 Inv-loop μ-loop
-wide-requires-2 c κs = search needs
-
-word-requires-2 : tie.Need-word-requires-2 Inv-loop μ-loop
-word-requires-2 c κs = search needs
-
-mul-climb : tie.Need-mul-climb Inv-loop μ-loop
-mul-climb c = omega arith
-
-add-climb : tie.Need-add-climb Inv-loop μ-loop
-add-climb c = omega arith
-
-add-climb-2 : tie.Need-add-climb-2 Inv-loop μ-loop
-add-climb-2 c = omega arith
-
-climb-requires : tie.Need-climb-requires Inv-loop μ-loop
-climb-requires c κs = search needs
-
-add-v : tie.Need-add-v Inv-loop μ-loop
-add-v c = omega arith
-
-loop-less : tie.Need-loop-less Inv-loop μ-loop
-loop-less c = omega arith
-
 loop-again : tie.Need-loop-again Inv-loop μ-loop
 loop-again c =
     let args = c .before .before .before .before .before .before .before .before .before .before .before .before .before .before .before .before .before .before .args in
@@ -98,16 +68,16 @@ write-rows-spec =
     Inv-loop
     μ-loop
     loop-holds
-    wide-requires
-    word-requires
-    wide-requires-2
-    word-requires-2
-    mul-climb
-    add-climb
-    add-climb-2
-    climb-requires
-    add-v
-    loop-less
+    (search needs)
+    (search needs)
+    (search needs)
+    (search needs)
+    (search needs)
+    (search needs)
+    (search needs)
+    (search needs)
+    (search needs)
+    (search needs)
     loop-again
     same-length
     same-length-2

@@ -5,18 +5,6 @@ use borrow.Author.Needs.{needs}
 use Rattle.opening_sections.proofs.write_head.Statement.{statement}
 use Rattle.opening_sections.proofs.write_head.Tie as tie
 
-put4-requires : tie.Need-put4-requires
-put4-requires c κs = search needs
-
-put4-requires-2 : tie.Need-put4-requires-2
-put4-requires-2 c κs = search needs
-
-clear-requires : tie.Need-clear-requires
-clear-requires c κs = search needs
-
-same-length : tie.Need-same-length
-same-length c = search needs
-
 returns : tie.Need-returns
 returns c =
     let args = c .before .before .before .before .before .before .before .before .before .before .before .before .before .args in
@@ -27,4 +15,4 @@ returns c =
 
 pub write-head-spec : {M : Type 1} → statement M
 write-head-spec =
-    tie.close (tie.spec put4-requires put4-requires-2 clear-requires same-length returns)
+    tie.close (tie.spec (search needs) (search needs) (search needs) (search needs) returns)

@@ -1,21 +1,12 @@
 -- `write_part_section` writes the parts of a sound map that is shown.
 -- Assumes nothing.
-use Rattle.opening_sections.proofs.Ready.{parts-sized, parts-ready, zeros-long, zeros-none}
+use Prim.Native.Nat.{ℕ}
+use lib.ListN.{length-replicate}
+use Rattle.words.proofs.Lists.{all-same}
+use Rattle.opening_sections.proofs.Ready.{parts-sized, parts-ready}
 use borrow.Author.Needs.{needs}
 use Rattle.opening_sections.proofs.write_part_section.Statement.{statement}
 use Rattle.opening_sections.proofs.write_part_section.Tie as tie
-
-rows-begin-requires : tie.Need-rows-begin-requires
-rows-begin-requires c κs = search needs
-
-slice-aggregate-write-parts : tie.Need-slice-aggregate-write-parts
-slice-aggregate-write-parts c = search needs
-
-write-parts-requires : tie.Need-write-parts-requires
-write-parts-requires c κs = search needs
-
-same-length : tie.Need-same-length
-same-length c = search needs
 
 returns : tie.Need-returns
 returns c =
@@ -25,14 +16,14 @@ returns c =
     λ m leaves body lifts vertices roads shown long.
     write-parts .ensures m
     (parts-ready m (args .parents .now) leaves body lifts (args .sizes .now) vertices roads (args .parts) (args .used) shown (args .mem .now) long _ _
-    (rows-begin .ensures m (parts-sized m (args .parents .now) leaves body lifts (args .sizes .now) vertices roads (args .parts) (args .used) shown (args .mem .now) long)) (zeros-long 512) (zeros-none 512))
+    (rows-begin .ensures m (parts-sized m (args .parents .now) leaves body lifts (args .sizes .now) vertices roads (args .parts) (args .used) shown (args .mem .now) long)) (length-replicate {A = ℕ} 512 0) (λ q h. all-same 512 q 0))
 
 pub write-part-section-spec : {M : Type 1} → statement M
 write-part-section-spec =
     tie.close
     (tie.spec
-    rows-begin-requires
-    slice-aggregate-write-parts
-    write-parts-requires
-    same-length
+    (search needs)
+    (search needs)
+    (search needs)
+    (search needs)
     returns)

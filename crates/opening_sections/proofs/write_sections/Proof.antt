@@ -6,42 +6,6 @@ use borrow.Author.Needs.{needs}
 use Rattle.opening_sections.proofs.write_sections.Statement.{statement}
 use Rattle.opening_sections.proofs.write_sections.Tie as tie
 
-write-head-requires : tie.Need-write-head-requires
-write-head-requires c κs = search needs
-
-write-part-section-requires : tie.Need-write-part-section-requires
-write-part-section-requires c κs = search needs
-
-write-net-requires : tie.Need-write-net-requires
-write-net-requires c κs = search needs
-
-mul-clear : tie.Need-mul-clear
-mul-clear c = search needs
-
-add-clear : tie.Need-add-clear
-add-clear c = search needs
-
-mul-clear-2 : tie.Need-mul-clear-2
-mul-clear-2 c = search needs
-
-add-clear-2 : tie.Need-add-clear-2
-add-clear-2 c = search needs
-
-mul-clear-3 : tie.Need-mul-clear-3
-mul-clear-3 c = search needs
-
-add-clear-3 : tie.Need-add-clear-3
-add-clear-3 c = search needs
-
-clear-requires : tie.Need-clear-requires
-clear-requires c κs = search needs
-
-write-row-section-requires : tie.Need-write-row-section-requires
-write-row-section-requires c κs = search needs
-
-same-length : tie.Need-same-length
-same-length c = search needs
-
 returns : tie.Need-returns
 returns c =
     let fits = c .before .before .before .before .before .before .before .before .before .before .before .before .before .before .before .before .before .before .before .before .before .before .before .before .before .before .fits in
@@ -59,23 +23,23 @@ returns c =
     let parts = write-part-section .ensures m (args .leaves .now) (args .body .now) (args .lifts .now) (args .counts .vertices) (args .counts .roads) shown head-long in
     let net = write-net .ensures m (args .parents .now) (args .lifts .now) (args .sizes .now) (args .used) shown part-long in
     let front = front-stands m (args .start) (args .parents .now) (args .leaves .now) (args .body .now) (args .lifts .now) (args .sizes .now) (args .counts .vertices) (args .counts .roads) (args .counts .parts) (args .used) shown (args .mem .now) _ _ _ _ 8192 long (write-head .ensures) parts net refl (clear .ensures) in
-    sections-stand m (args .start) _ _ (vans-long ∙ shown .need-is) front
+    sections-stand m (args .start) _ _ (vans-long ∙ shown .counted .need-is) front
     (write-row-section .ensures m (args .body .now) (args .sizes .now) (args .counts .roads) (args .used) (fits .used .fits) shown vans-long (first-row-stands m (args .start) _ front))
 
 pub write-sections-spec : {M : Type 1} → statement M
 write-sections-spec =
     tie.close
     (tie.spec
-    write-head-requires
-    write-part-section-requires
-    write-net-requires
-    mul-clear
-    add-clear
-    mul-clear-2
-    add-clear-2
-    mul-clear-3
-    add-clear-3
-    clear-requires
-    write-row-section-requires
-    same-length
+    (search needs)
+    (search needs)
+    (search needs)
+    (search needs)
+    (search needs)
+    (search needs)
+    (search needs)
+    (search needs)
+    (search needs)
+    (search needs)
+    (search needs)
+    (search needs)
     returns)

@@ -1,7 +1,7 @@
 -- `skip` passes the roads that start below v.
 -- Assumes nothing.
+use borrow.Author.Needs.{needs}
 use Prim.Native.Nat.{_-_}
-use native.Mathlib.Omega.{arith}
 use Rattle.opening_vertices.proofs.Step.{Passing, passing-none, passing-more, passing-stop, passing-end}
 use Rattle.opening_vertices.proofs.skip.Statement.{statement}
 use Rattle.opening_vertices.proofs.skip.Tie as tie
@@ -17,15 +17,6 @@ loop-holds c =
     let args = c .before .args in
     passing-none (args .body .now) (args .roads) (args .first) (args .v)
 
-wide-requires : tie.Need-wide-requires Inv-loop μ-loop
-wide-requires c κs = omega arith
-
-mul-number2 : tie.Need-mul-number2 Inv-loop μ-loop
-mul-number2 c = omega arith
-
-number2-requires : tie.Need-number2-requires Inv-loop μ-loop
-number2-requires c κs = omega arith
-
 returns : tie.Need-returns Inv-loop μ-loop
 returns c =
     let args = c .before .before .before .before .before .before .args in
@@ -34,12 +25,6 @@ returns c =
     let number2 = c .before .number2 in
     let if1 = c .if1 in
     passing-stop (args .body .now) (args .roads) (args .first) (args .v) (loop .r) _ _ (wide .ensures) (number2 .ensures .0) (loop .inv) (if1 .taken)
-
-add-r : tie.Need-add-r Inv-loop μ-loop
-add-r c = omega arith
-
-loop-less : tie.Need-loop-less Inv-loop μ-loop
-loop-less c = omega arith
 
 loop-again : tie.Need-loop-again Inv-loop μ-loop
 loop-again c =
@@ -65,11 +50,11 @@ skip-spec =
     Inv-loop
     μ-loop
     loop-holds
-    wide-requires
-    mul-number2
-    number2-requires
+    (search needs)
+    (search needs)
+    (search needs)
     returns
-    add-r
-    loop-less
+    (search needs)
+    (search needs)
     loop-again
     returns-2)

@@ -5,18 +5,6 @@ use borrow.Author.Needs.{needs}
 use Rattle.opening_vertices.proofs.write_vertex.Statement.{statement}
 use Rattle.opening_vertices.proofs.write_vertex.Tie as tie
 
-put4-requires : tie.Need-put4-requires
-put4-requires c κs = search needs
-
-add-put4 : tie.Need-add-put4
-add-put4 c = search needs
-
-put4-requires-2 : tie.Need-put4-requires-2
-put4-requires-2 c κs = search needs
-
-same-length : tie.Need-same-length
-same-length c = search needs
-
 returns : tie.Need-returns
 returns c =
     let args = c .before .before .before .before .before .before .before .before .before .args in
@@ -25,4 +13,4 @@ returns c =
     vertex-stored (args .mem .now) _ _ (args .at) (args .leaf) (args .place) (args .road) (args .link) (put4 .ensures) (put42 .ensures)
 
 pub write-vertex-spec : {M : Type 1} → statement M
-write-vertex-spec = tie.close (tie.spec put4-requires add-put4 put4-requires-2 same-length returns)
+write-vertex-spec = tie.close (tie.spec (search needs) (search needs) (search needs) (search needs) returns)

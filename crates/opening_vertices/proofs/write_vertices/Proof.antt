@@ -29,39 +29,6 @@ loop-holds c =
     let args = c .before .before .before .before .before .args in
     (omega arith, refl, refl, λ m ready. (taken-none m (args .leaves .now) (args .body .now) (args .roads) (args .vertices) (args .base) (args .ins .now) (args .places .now) (args .mem .now) ready, written-none (verticesAt m) 8 (freshVertex m) 0 (args .mem .now)))
 
-skip-requires : tie.Need-skip-requires Inv-loop μ-loop
-skip-requires c κs = search needs
-
-wide-requires : tie.Need-wide-requires Inv-loop μ-loop
-wide-requires c κs = search needs
-
-word-requires : tie.Need-word-requires Inv-loop μ-loop
-word-requires c κs = search needs
-
-next-place-requires : tie.Need-next-place-requires Inv-loop μ-loop
-next-place-requires c κs = search needs
-
-wide-requires-2 : tie.Need-wide-requires-2 Inv-loop μ-loop
-wide-requires-2 c κs = search needs
-
-word-requires-2 : tie.Need-word-requires-2 Inv-loop μ-loop
-word-requires-2 c κs = search needs
-
-mul-write-vertex : tie.Need-mul-write-vertex Inv-loop μ-loop
-mul-write-vertex c = omega arith
-
-add-write-vertex : tie.Need-add-write-vertex Inv-loop μ-loop
-add-write-vertex c = omega arith
-
-write-vertex-requires : tie.Need-write-vertex-requires Inv-loop μ-loop
-write-vertex-requires c κs = search needs
-
-add-v : tie.Need-add-v Inv-loop μ-loop
-add-v c = omega arith
-
-loop-less : tie.Need-loop-less Inv-loop μ-loop
-loop-less c = omega arith
-
 loop-again : tie.Need-loop-again Inv-loop μ-loop
 loop-again c =
     let args = c .before .before .before .before .before .before .before .before .before .before .before .before .before .before .before .before .before .before .before .before .args in
@@ -105,17 +72,17 @@ write-vertices-spec =
     Inv-loop
     μ-loop
     loop-holds
-    skip-requires
-    wide-requires
-    word-requires
-    next-place-requires
-    wide-requires-2
-    word-requires-2
-    mul-write-vertex
-    add-write-vertex
-    write-vertex-requires
-    add-v
-    loop-less
+    (search needs)
+    (search needs)
+    (search needs)
+    (search needs)
+    (search needs)
+    (search needs)
+    (search needs)
+    (search needs)
+    (search needs)
+    (search needs)
+    (search needs)
     loop-again
     same-length
     same-length-2

@@ -5,33 +5,6 @@ use Rattle.records.proofs.Stores.{four}
 use Rattle.records.proofs.put4.Statement.{statement}
 use Rattle.records.proofs.put4.Tie as tie
 
-wide-requires : tie.Need-wide-requires
-wide-requires c κs = search needs
-
-put-requires : tie.Need-put-requires
-put-requires c κs = search needs
-
-add-put : tie.Need-add-put
-add-put c = search needs
-
-put-requires-2 : tie.Need-put-requires-2
-put-requires-2 c κs = search needs
-
-add-put-2 : tie.Need-add-put-2
-add-put-2 c = search needs
-
-put-requires-3 : tie.Need-put-requires-3
-put-requires-3 c κs = search needs
-
-add-put-3 : tie.Need-add-put-3
-add-put-3 c = search needs
-
-put-requires-4 : tie.Need-put-requires-4
-put-requires-4 c κs = search needs
-
-same-length : tie.Need-same-length
-same-length c = search needs
-
 returns : tie.Need-returns
 returns c =
     let args = c .before .before .before .before .before .before .before .before .before .before .before .before .before .before .before .before .before .before .args in
@@ -46,13 +19,13 @@ pub put4-spec : {M : Type 1} → statement M
 put4-spec =
     tie.close
     (tie.spec
-    wide-requires
-    put-requires
-    add-put
-    put-requires-2
-    add-put-2
-    put-requires-3
-    add-put-3
-    put-requires-4
-    same-length
+    (search needs)
+    (search needs)
+    (search needs)
+    (search needs)
+    (search needs)
+    (search needs)
+    (search needs)
+    (search needs)
+    (search needs)
     returns)

@@ -26,9 +26,6 @@ returns-3 c =
     let if3 = c .if3 in
     claiming-differs (a .old) (a .stamp) (a .desk) (if1 .left) (if2 .left) (if3 .taken)
 
-add-t8 : tie.Need-add-t8
-add-t8 c = search needs
-
 returns-4 : tie.Need-returns-4
 returns-4 c =
     let a = c .before .before .before .before .before .before .args in
@@ -38,4 +35,4 @@ returns-4 c =
     claiming-free (a .old) (a .stamp) (a .desk) (if1 .left) (if2 .left) (if3 .left)
 
 pub claiming-spec : {M : Type 1} → statement M
-claiming-spec = tie.close (tie.spec returns returns-2 returns-3 add-t8 returns-4)
+claiming-spec = tie.close (tie.spec returns returns-2 returns-3 (search needs) returns-4)

@@ -5,38 +5,8 @@ use borrow.Author.Needs.{needs}
 use Rattle.refusals.proofs.judged.Statement.{statement}
 use Rattle.refusals.proofs.judged.Tie as tie
 
-enum-known-change : tie.Need-enum-known-change
-enum-known-change c = search needs
-
-road-between-requires : tie.Need-road-between-requires
-road-between-requires c κs = search needs
-
-road-weight-requires : tie.Need-road-weight-requires
-road-weight-requires c κs = search needs
-
-adding-requires : tie.Need-adding-requires
-adding-requires c κs = search needs
-
-enum-known-change-2 : tie.Need-enum-known-change-2
-enum-known-change-2 c = search needs
-
-road-between-requires-2 : tie.Need-road-between-requires-2
-road-between-requires-2 c κs = search needs
-
-road-weight-requires-2 : tie.Need-road-weight-requires-2
-road-weight-requires-2 c κs = search needs
-
-moving-requires : tie.Need-moving-requires
-moving-requires c κs = search needs
-
 enum-told : tie.Need-enum-told
 enum-told c = search needs
-
-removing-requires : tie.Need-removing-requires
-removing-requires c κs = search needs
-
-enum-known-change-3 : tie.Need-enum-known-change-3
-enum-known-change-3 c = search needs
 
 claiming-requires : tie.Need-claiming-requires
 claiming-requires c κs =
@@ -44,9 +14,6 @@ claiming-requires c κs =
     let change3 = c .before .change3 in
     let pre = c .before .before .before .before .pre in
     small-as (a .change) _ (change3 .given .1) pre
-
-enum-known-change-4 : tie.Need-enum-known-change-4
-enum-known-change-4 c = search needs
 
 releasing-requires : tie.Need-releasing-requires
 releasing-requires c κs =
@@ -98,19 +65,19 @@ pub judged-spec : {M : Type 1} → statement M
 judged-spec =
     tie.close
     (tie.spec
-    enum-known-change
-    road-between-requires
-    road-weight-requires
-    adding-requires
-    enum-known-change-2
-    road-between-requires-2
-    road-weight-requires-2
-    moving-requires
+    (search needs)
+    (search needs)
+    (search needs)
+    (search needs)
+    (search needs)
+    (search needs)
+    (search needs)
+    (search needs)
     enum-told
-    removing-requires
-    enum-known-change-3
+    (search needs)
+    (search needs)
     claiming-requires
-    enum-known-change-4
+    (search needs)
     releasing-requires
     returns
     returns-2

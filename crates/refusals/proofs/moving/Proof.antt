@@ -11,9 +11,6 @@ returns c =
     let if1 = c .if1 in
     moving-none (a .old) (a .roads) (a .road) (a .weight) (a .offset) (if1 .taken)
 
-placing-requires : tie.Need-placing-requires
-placing-requires c κs = search needs
-
 returns-2 : tie.Need-returns-2
 returns-2 c =
     let a = c .before .before .before .args in
@@ -22,4 +19,4 @@ returns-2 c =
     moving-place (a .old) (a .roads) (a .road) (a .weight) (a .offset) _ (if1 .left) (placing .ensures)
 
 pub moving-spec : {M : Type 1} → statement M
-moving-spec = tie.close (tie.spec returns placing-requires returns-2)
+moving-spec = tie.close (tie.spec returns (search needs) returns-2)

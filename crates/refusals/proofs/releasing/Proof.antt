@@ -11,9 +11,6 @@ returns c =
     let if1 = c .if1 in
     releasing-none (a .old) (a .desk) (if1 .taken)
 
-add-if2 : tie.Need-add-if2
-add-if2 c = search needs
-
 returns-2 : tie.Need-returns-2
 returns-2 c =
     let a = c .before .before .before .before .args in
@@ -29,4 +26,4 @@ returns-3 c =
     releasing-held (a .old) (a .desk) (if1 .left) (if2 .left)
 
 pub releasing-spec : {M : Type 1} → statement M
-releasing-spec = tie.close (tie.spec returns add-if2 returns-2 returns-3)
+releasing-spec = tie.close (tie.spec returns (search needs) returns-2 returns-3)

@@ -5,15 +5,6 @@ use borrow.Author.Needs.{needs}
 use Rattle.road_lookup.proofs.first_road.Statement.{statement}
 use Rattle.road_lookup.proofs.first_road.Tie as tie
 
-vertex-at-requires : tie.Need-vertex-at-requires
-vertex-at-requires c κs = search needs
-
-add-word : tie.Need-add-word
-add-word c = search needs
-
-word-requires : tie.Need-word-requires
-word-requires c κs = search needs
-
 returns : tie.Need-returns
 returns c =
     let a = c .before .before .before .before .before .args in
@@ -25,4 +16,4 @@ returns-2 c =
     first-past (a .mem .now) (a .counts) (a .vertex) (c .if1 .left)
 
 pub first-road-spec : {M : Type 1} → statement M
-first-road-spec = tie.close (tie.spec vertex-at-requires add-word word-requires returns returns-2)
+first-road-spec = tie.close (tie.spec (search needs) (search needs) (search needs) returns returns-2)

@@ -17,29 +17,11 @@ abbrev μ-loop : tie.MeasureT-loop
 loop-holds : tie.Need-loop-holds Inv-loop μ-loop
 loop-holds c = at-start _ _ _ _
 
-sub-middle : tie.Need-sub-middle Inv-loop μ-loop
-sub-middle c = omega arith
-
-add-middle : tie.Need-add-middle Inv-loop μ-loop
-add-middle c = omega arith
-
-road-end-requires : tie.Need-road-end-requires Inv-loop μ-loop
-road-end-requires c κs = search needs
-
-add-from : tie.Need-add-from Inv-loop μ-loop
-add-from c = omega arith
-
-loop-less : tie.Need-loop-less Inv-loop μ-loop
-loop-less c = omega arith
-
 loop-again : tie.Need-loop-again Inv-loop μ-loop
 loop-again c =
     let a = c .before .before .before .before .before .args in
     let l = c .before .before .before .loop in
     go-up (endIn (a .mem .now) (a .counts)) (a .low) (a .high) (a .to) (l .from) (l .until) _ (l .inv) (omega arith) (omega arith) (omega (arith, c .before .road-end .ensures))
-
-loop-less-2 : tie.Need-loop-less-2 Inv-loop μ-loop
-loop-less-2 c = omega arith
 
 loop-again-2 : tie.Need-loop-again-2 Inv-loop μ-loop
 loop-again-2 c =
@@ -60,12 +42,12 @@ first-to-spec =
     Inv-loop
     μ-loop
     loop-holds
-    sub-middle
-    add-middle
-    road-end-requires
-    add-from
-    loop-less
+    (search needs)
+    (search needs)
+    (search needs)
+    (search needs)
+    (search needs)
     loop-again
-    loop-less-2
+    (search needs)
     loop-again-2
     returns)

@@ -12,18 +12,6 @@ returns c =
     let if1 = c .if1 in
     λ m sound stand. no-vertex (a .mem .now) (a .counts) (a .from) (a .to) m sound stand (if1 .taken)
 
-first-road-requires : tie.Need-first-road-requires
-first-road-requires c κs = search needs
-
-add-first-road : tie.Need-add-first-road
-add-first-road c = search needs
-
-first-road-requires-2 : tie.Need-first-road-requires-2
-first-road-requires-2 c κs = search needs
-
-first-to-requires : tie.Need-first-to-requires
-first-to-requires c κs = search needs
-
 returns-2 : tie.Need-returns-2
 returns-2 c =
     let a = c .before .before .before .before .before .before .before .args in
@@ -33,9 +21,6 @@ returns-2 c =
     let first-to = c .before .first-to in
     let if2 = c .if2 in
     λ m sound stand. none-left (a .mem .now) (a .counts) (a .from) (a .to) m sound stand (if1 .left) _ _ _ (first-road .ensures) (first-road2 .ensures) (first-to .ensures) (if2 .taken)
-
-road-end-requires : tie.Need-road-end-requires
-road-end-requires c κs = search needs
 
 returns-3 : tie.Need-returns-3
 returns-3 c =
@@ -66,11 +51,11 @@ road-between-spec =
     tie.close
     (tie.spec
     returns
-    first-road-requires
-    add-first-road
-    first-road-requires-2
-    first-to-requires
+    (search needs)
+    (search needs)
+    (search needs)
+    (search needs)
     returns-2
-    road-end-requires
+    (search needs)
     returns-3
     returns-4)

@@ -5,19 +5,10 @@ use borrow.Author.Needs.{needs}
 use Rattle.road_lookup.proofs.road_end.Statement.{statement}
 use Rattle.road_lookup.proofs.road_end.Tie as tie
 
-road-at-requires : tie.Need-road-at-requires
-road-at-requires c κs = search needs
-
-add-word : tie.Need-add-word
-add-word c = search needs
-
-word-requires : tie.Need-word-requires
-word-requires c κs = search needs
-
 returns : tie.Need-returns
 returns c =
     let a = c .before .before .before .args in
     end-read (a .mem .now) (a .counts) (a .road) _ _ (c .before .road-at .ensures) (c .word .ensures)
 
 pub road-end-spec : {M : Type 1} → statement M
-road-end-spec = tie.close (tie.spec road-at-requires add-word word-requires returns)
+road-end-spec = tie.close (tie.spec (search needs) (search needs) (search needs) returns)

@@ -14,26 +14,11 @@ Inv-loop mem₀ p size i₀ mem i = (i ≤ size) × (length mem ≡ length mem�
 abbrev μ-loop : tie.MeasureT-loop
 μ-loop mem₀ p size i₀ mem i = size - i
 
-of-part-requires : tie.Need-of-part-requires Inv-loop μ-loop
-of-part-requires c κs = search needs
-
 loop-holds : tie.Need-loop-holds Inv-loop μ-loop
 loop-holds c = (search needs, refl, λ m low _ _ _. agreed-first m low _ _)
 
-agree-row-requires : tie.Need-agree-row-requires Inv-loop μ-loop
-agree-row-requires c κs = search needs
-
-add-i : tie.Need-add-i Inv-loop μ-loop
-add-i c = search needs
-
-loop-less : tie.Need-loop-less Inv-loop μ-loop
-loop-less c = search needs
-
 loop-again : tie.Need-loop-again Inv-loop μ-loop
 loop-again c = (search needs, search needs, rows-turn _ _ _ _ _ (search needs) (c .before .before .before .before .before .before .of-part .ensures) (c .before .before .before .before .before .loop .inv .2) (c .before .before .agree-row .ensures .0))
-
-same-length : tie.Need-same-length Inv-loop μ-loop
-same-length c = search needs
 
 returns : tie.Need-returns Inv-loop μ-loop
 returns c = (rows-done _ _ _ _ (c .before .loop .inv .0) (search needs) (c .before .before .of-part .ensures) (c .before .loop .inv .2), c .before .loop .inv .1)
@@ -44,11 +29,11 @@ agree-spec =
     (tie.spec
     Inv-loop
     μ-loop
-    of-part-requires
+    (search needs)
     loop-holds
-    agree-row-requires
-    add-i
-    loop-less
+    (search needs)
+    (search needs)
+    (search needs)
     loop-again
-    same-length
+    (search needs)
     returns)

@@ -17,20 +17,8 @@ abbrev μ-loop : tie.MeasureT-loop
 loop-holds : tie.Need-loop-holds Inv-loop μ-loop
 loop-holds c = (search needs, refl, λ m low p i _ _ _ _ _. row-first m low p i _)
 
-level-pair-requires : tie.Need-level-pair-requires Inv-loop μ-loop
-level-pair-requires c κs = search needs
-
-add-j : tie.Need-add-j Inv-loop μ-loop
-add-j c = search needs
-
-loop-less : tie.Need-loop-less Inv-loop μ-loop
-loop-less c = search needs
-
 loop-again : tie.Need-loop-again Inv-loop μ-loop
 loop-again c = (search needs, search needs, row-turn _ _ _ _ _ _ _ _ _ _ (search needs) (c .before .before .before .before .before .loop .inv .2) (c .before .before .level-pair .ensures .0))
-
-same-length : tie.Need-same-length Inv-loop μ-loop
-same-length c = search needs
 
 returns : tie.Need-returns Inv-loop μ-loop
 returns c = (row-done _ _ _ _ _ _ _ _ _ (c .before .loop .inv .0) (search needs) (c .before .loop .inv .2), c .before .loop .inv .1)
@@ -42,9 +30,9 @@ level-row-spec =
     Inv-loop
     μ-loop
     loop-holds
-    level-pair-requires
-    add-j
-    loop-less
+    (search needs)
+    (search needs)
+    (search needs)
     loop-again
-    same-length
+    (search needs)
     returns)

@@ -14,44 +14,11 @@ Inv-loop mem₀ place marks₀ p i first v r₀ end mem marks r = (length mem �
 abbrev μ-loop : tie.MeasureT-loop
 μ-loop mem₀ place marks₀ p i first v r₀ end mem marks r = end - r
 
-of-part-requires : tie.Need-of-part-requires Inv-loop μ-loop
-of-part-requires c κs = search needs
-
-of-row-requires : tie.Need-of-row-requires Inv-loop μ-loop
-of-row-requires c κs = search needs
-
-vertex-of-requires : tie.Need-vertex-of-requires Inv-loop μ-loop
-vertex-of-requires c κs = search needs
-
-first-road-requires : tie.Need-first-road-requires Inv-loop μ-loop
-first-road-requires c κs = search needs
-
-add-first-road : tie.Need-add-first-road Inv-loop μ-loop
-add-first-road c = search needs
-
-first-road-requires-2 : tie.Need-first-road-requires-2 Inv-loop μ-loop
-first-road-requires-2 c κs = search needs
-
 loop-holds : tie.Need-loop-holds Inv-loop μ-loop
 loop-holds c = (refl, refl, roads-first _ _ _ _ _ _)
 
-lower-by-road-requires : tie.Need-lower-by-road-requires Inv-loop μ-loop
-lower-by-road-requires c κs = search needs
-
-add-r : tie.Need-add-r Inv-loop μ-loop
-add-r c = search needs
-
-loop-less : tie.Need-loop-less Inv-loop μ-loop
-loop-less c = search needs
-
 loop-again : tie.Need-loop-again Inv-loop μ-loop
 loop-again c = (c .before .before .before .before .lower-by-road .ensures .1 .0 ∙ c .before .before .before .before .before .before .before .before .loop .inv .0, c .before .before .before .before .lower-by-road .ensures .1 .1 ∙ c .before .before .before .before .before .before .before .before .loop .inv .1, roads-turn _ _ _ _ _ _ _ _ _ _ _ (c .before .before .before .before .before .before .before .before .loop .inv .1) (search needs) (c .before .before .before .before .before .before .before .before .before .before .before .before .before .before .before .before .of-part .ensures) (c .before .before .before .before .before .before .before .before .before .before .before .before .before .before .of-row .ensures) (c .before .before .before .before .before .before .before .before .before .before .before .before .before .vertex-of .ensures .1) (c .before .before .before .before .before .before .before .before .before .first-road2 .ensures) (c .before .before .before .before .before .before .before .before .loop .inv .2) (c .before .before .before .before .lower-by-road .ensures .0))
-
-same-length : tie.Need-same-length Inv-loop μ-loop
-same-length c = search needs
-
-same-length-2 : tie.Need-same-length-2 Inv-loop μ-loop
-same-length-2 c = search needs
 
 returns : tie.Need-returns Inv-loop μ-loop
 returns c = (roads-done _ _ _ _ _ _ _ _ _ (search needs) (c .before .before .before .before .before .before .before .before .before .of-part .ensures) (c .before .before .before .before .before .before .before .of-row .ensures) (c .before .before .before .before .before .before .vertex-of .ensures .1) (c .before .before .before .before .first-road .ensures) (c .before .before .first-road2 .ensures) (c .before .loop .inv .2), (c .before .loop .inv .0, c .before .loop .inv .1))
@@ -62,17 +29,17 @@ lower-by-roads-spec =
     (tie.spec
     Inv-loop
     μ-loop
-    of-part-requires
-    of-row-requires
-    vertex-of-requires
-    first-road-requires
-    add-first-road
-    first-road-requires-2
+    (search needs)
+    (search needs)
+    (search needs)
+    (search needs)
+    (search needs)
+    (search needs)
     loop-holds
-    lower-by-road-requires
-    add-r
-    loop-less
+    (search needs)
+    (search needs)
+    (search needs)
     loop-again
-    same-length
-    same-length-2
+    (search needs)
+    (search needs)
     returns)

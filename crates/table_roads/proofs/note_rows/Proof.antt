@@ -14,38 +14,11 @@ Inv-loop mem p place₀ size first i₀ place i = (i ≤ size) × (length place 
 abbrev μ-loop : tie.MeasureT-loop
 μ-loop mem p place₀ size first i₀ place i = size - i
 
-of-part-requires : tie.Need-of-part-requires Inv-loop μ-loop
-of-part-requires c κs = search needs
-
-of-part-requires-2 : tie.Need-of-part-requires-2 Inv-loop μ-loop
-of-part-requires-2 c κs = search needs
-
 loop-holds : tie.Need-loop-holds Inv-loop μ-loop
 loop-holds c = (search needs, refl, noted-first _ _ _ _)
 
-of-row-requires : tie.Need-of-row-requires Inv-loop μ-loop
-of-row-requires c κs = search needs
-
-vertex-of-requires : tie.Need-vertex-of-requires Inv-loop μ-loop
-vertex-of-requires c κs = search needs
-
-wide-requires : tie.Need-wide-requires Inv-loop μ-loop
-wide-requires c κs = search needs
-
-put-requires : tie.Need-put-requires Inv-loop μ-loop
-put-requires c κs = search needs
-
-add-i : tie.Need-add-i Inv-loop μ-loop
-add-i c = search needs
-
-loop-less : tie.Need-loop-less Inv-loop μ-loop
-loop-less c = search needs
-
 loop-again : tie.Need-loop-again Inv-loop μ-loop
 loop-again c = (search needs, search needs, noted-turn _ _ _ _ _ (search needs) (c .before .before .before .before .before .before .before .before .before .before .of-part .ensures) (c .before .before .before .before .before .before .before .before .loop .inv .1) (c .before .before .before .before .before .before .before .before .loop .inv .2) (c .before .before .before .before .before .before .before .before .before .of-part2 .ensures) (c .before .before .before .before .before .before .of-row .ensures) (c .before .before .before .before .before .vertex-of .ensures .1) (c .before .before .before .wide .ensures) (c .before .before .put .ensures))
-
-same-length : tie.Need-same-length Inv-loop μ-loop
-same-length c = search needs
 
 returns : tie.Need-returns Inv-loop μ-loop
 returns c = (noted-done _ _ _ _ _ (c .before .loop .inv .0) (search needs) (c .before .before .before .of-part .ensures) (c .before .loop .inv .2), c .before .loop .inv .1)
@@ -56,15 +29,15 @@ note-rows-spec =
     (tie.spec
     Inv-loop
     μ-loop
-    of-part-requires
-    of-part-requires-2
+    (search needs)
+    (search needs)
     loop-holds
-    of-row-requires
-    vertex-of-requires
-    wide-requires
-    put-requires
-    add-i
-    loop-less
+    (search needs)
+    (search needs)
+    (search needs)
+    (search needs)
+    (search needs)
+    (search needs)
     loop-again
-    same-length
+    (search needs)
     returns)

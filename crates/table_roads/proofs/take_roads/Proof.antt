@@ -14,29 +14,11 @@ Inv-loop mem₀ place marks₀ p size i₀ mem marks i = (i ≤ size) × (length
 abbrev μ-loop : tie.MeasureT-loop
 μ-loop mem₀ place marks₀ p size i₀ mem marks i = size - i
 
-of-part-requires : tie.Need-of-part-requires Inv-loop μ-loop
-of-part-requires c κs = search needs
-
 loop-holds : tie.Need-loop-holds Inv-loop μ-loop
 loop-holds c = (search needs, refl, refl, taken-first _ _ _ _)
 
-lower-by-roads-requires : tie.Need-lower-by-roads-requires Inv-loop μ-loop
-lower-by-roads-requires c κs = search needs
-
-add-i : tie.Need-add-i Inv-loop μ-loop
-add-i c = search needs
-
-loop-less : tie.Need-loop-less Inv-loop μ-loop
-loop-less c = search needs
-
 loop-again : tie.Need-loop-again Inv-loop μ-loop
 loop-again c = (search needs, c .before .before .before .before .lower-by-roads .ensures .1 .0 ∙ c .before .before .before .before .before .before .before .before .loop .inv .1, c .before .before .before .before .lower-by-roads .ensures .1 .1 ∙ c .before .before .before .before .before .before .before .before .loop .inv .2, taken-turn _ _ _ _ _ _ _ _ _ (c .before .before .before .before .before .before .before .before .loop .inv .2) (search needs) (c .before .before .before .before .before .before .before .before .before .of-part .ensures) (c .before .before .before .before .before .before .before .before .loop .inv .3) (c .before .before .before .before .lower-by-roads .ensures .0))
-
-same-length : tie.Need-same-length Inv-loop μ-loop
-same-length c = search needs
-
-same-length-2 : tie.Need-same-length-2 Inv-loop μ-loop
-same-length-2 c = search needs
 
 returns : tie.Need-returns Inv-loop μ-loop
 returns c = (taken-done _ _ _ _ _ _ _ (c .before .loop .inv .0) (search needs) (c .before .before .of-part .ensures) (c .before .loop .inv .3), (c .before .loop .inv .1, c .before .loop .inv .2))
@@ -47,12 +29,12 @@ take-roads-spec =
     (tie.spec
     Inv-loop
     μ-loop
-    of-part-requires
+    (search needs)
     loop-holds
-    lower-by-roads-requires
-    add-i
-    loop-less
+    (search needs)
+    (search needs)
+    (search needs)
     loop-again
-    same-length
-    same-length-2
+    (search needs)
+    (search needs)
     returns)

@@ -13,9 +13,6 @@ Inv-loop table₀ n i₀ at₀ table i at = Zeroing n table₀ table i at
 abbrev μ-loop : tie.MeasureT-loop
 μ-loop table₀ n i₀ at₀ table i at = n - i
 
-fill-far-requires : tie.Need-fill-far-requires Inv-loop μ-loop
-fill-far-requires c κs = search needs
-
 loop-holds : tie.Need-loop-holds Inv-loop μ-loop
 loop-holds c = zeroing-first _ _ _ (search needs) (c .before .before .fill-far .ensures)
 
@@ -31,17 +28,8 @@ slice-write-table c = zeroing-room (c .before .loop .inv) (search needs)
 add-at : tie.Need-add-at Inv-loop μ-loop
 add-at c = omega (arith, zeroing-room (c .before .loop .inv) (search needs))
 
-add-i : tie.Need-add-i Inv-loop μ-loop
-add-i c = search needs
-
-loop-less : tie.Need-loop-less Inv-loop μ-loop
-loop-less c = search needs
-
 loop-again : tie.Need-loop-again Inv-loop μ-loop
 loop-again c = zeroing-step (c .before .loop .inv) (search needs)
-
-same-length : tie.Need-same-length Inv-loop μ-loop
-same-length c = search needs
 
 returns : tie.Need-returns Inv-loop μ-loop
 returns c = zeroing-done (c .before .loop .inv) (search needs)
@@ -52,14 +40,14 @@ blank-table-spec =
     (tie.spec
     Inv-loop
     μ-loop
-    fill-far-requires
+    (search needs)
     loop-holds
     add-table
     mul-table
     slice-write-table
     add-at
-    add-i
-    loop-less
+    (search needs)
+    (search needs)
     loop-again
-    same-length
+    (search needs)
     returns)

@@ -5,42 +5,14 @@ use native.Mathlib.Omega.{arith}
 use mathlib.Core.Path.{refl, ap}
 use Prim.Native.Nat.{ℕ, _*_}
 use Rattle.table_rows.proofs.Rows.{square-few, tried-there}
-use borrow.Author.Needs.{needs}
 use Rattle.table_rows.proofs.try_at.Statement.{statement}
 use Rattle.table_rows.proofs.try_at.Tie as tie
-
-wide-requires : tie.Need-wide-requires
-wide-requires c κs = search needs
-
-wide-requires-2 : tie.Need-wide-requires-2
-wide-requires-2 c κs = search needs
-
-wide-requires-3 : tie.Need-wide-requires-3
-wide-requires-3 c κs = search needs
 
 mul-end : tie.Need-mul-end
 mul-end c = omega (arith, square-few (c .before .if1 .taken))
 
 add-end : tie.Need-add-end
 add-end c = omega (arith, square-few (c .before .if1 .taken))
-
-mul-try-table : tie.Need-mul-try-table
-mul-try-table c = search needs
-
-sub-try-table : tie.Need-sub-try-table
-sub-try-table c = search needs
-
-part-try-table-start : tie.Need-part-try-table-start
-part-try-table-start c = search needs
-
-part-try-table-end : tie.Need-part-try-table-end
-part-try-table-end c = search needs
-
-try-table-requires : tie.Need-try-table-requires
-try-table-requires c κs = search needs
-
-same-length : tie.Need-same-length
-same-length c = search needs
 
 returns : tie.Need-returns
 returns c = rw (← c .before .before .before .before .before .before .before .wide3 .ensures, ← c .before .before .before .before .before .before .before .before .before .wide .ensures, ← c .before .before .before .before .before .before .before .before .wide2 .ensures) (tried-there _ _ _ (c .before .before .before .before .if3 .taken) _ (search needs) (c .before .before .before .before .before .if2 .taken) (c .before .before .try-table .ensures))
@@ -58,17 +30,17 @@ pub try-at-spec : {M : Type 1} → statement M
 try-at-spec =
     tie.close
     (tie.spec
-    wide-requires
-    wide-requires-2
-    wide-requires-3
+    (search needs)
+    (search needs)
+    (search needs)
     mul-end
     add-end
-    mul-try-table
-    sub-try-table
-    part-try-table-start
-    part-try-table-end
-    try-table-requires
-    same-length
+    (search needs)
+    (search needs)
+    (search needs)
+    (search needs)
+    (search needs)
+    (search needs)
     returns
     returns-2
     returns-3

@@ -12,17 +12,8 @@ mul-start c = omega (arith, copy-room (c .before .args .table .now) (c .before .
 add-stop : tie.Need-add-stop
 add-stop c = omega (arith, copy-room (c .before .args .table .now) (c .before .pre .0) (c .before .pre .2))
 
-slice-aggregate-copy : tie.Need-slice-aggregate-copy
-slice-aggregate-copy c = search needs
-
 mul-copy : tie.Need-mul-copy
 mul-copy c = omega (arith, copy-room (c .before .before .args .table .now) (c .before .before .pre .0) (c .before .before .pre .2))
-
-sub-copy : tie.Need-sub-copy
-sub-copy c = search needs
-
-part-copy-start : tie.Need-part-copy-start
-part-copy-start c = search needs
 
 part-copy-end : tie.Need-part-copy-end
 part-copy-end c = copy-room (c .before .before .before .args .table .now) (c .before .before .before .pre .0) (c .before .before .before .pre .2)
@@ -30,14 +21,8 @@ part-copy-end c = copy-room (c .before .before .before .args .table .now) (c .be
 copy-requires : tie.Need-copy-requires
 copy-requires c κs = omega (arith, copy-length (c .before .before .before .before .args .table .now) (c .before .before .before .before .pre .0) (c .before .before .before .before .pre .2))
 
-slice-aggregate-try-node : tie.Need-slice-aggregate-try-node
-slice-aggregate-try-node c = search needs
-
 try-node-requires : tie.Need-try-node-requires
 try-node-requires c κs = (search needs, search needs, copy-starts (c .before .before .before .before .before .before .before .before .args .table .now) (c .before .before .before .before .before .before .before .before .pre .0) (c .before .before .before .before .before .before .before .before .pre .2) _ (search needs) (c .before .before .before .copy .ensures))
-
-same-length : tie.Need-same-length
-same-length c = search needs
 
 returns : tie.Need-returns
 returns c = search needs
@@ -48,13 +33,13 @@ try-table-spec =
     (tie.spec
     mul-start
     add-stop
-    slice-aggregate-copy
+    (search needs)
     mul-copy
-    sub-copy
-    part-copy-start
+    (search needs)
+    (search needs)
     part-copy-end
     copy-requires
-    slice-aggregate-try-node
+    (search needs)
     try-node-requires
-    same-length
+    (search needs)
     returns)

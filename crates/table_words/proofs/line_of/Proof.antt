@@ -3,18 +3,8 @@
 use borrow.Author.Needs.{needs}
 use native.Mathlib.Omega.{arith}
 use Rattle.assembly.proofs.Numbers.{product-fits}
-use borrow.Author.Needs.{needs}
 use Rattle.table_words.proofs.line_of.Statement.{statement}
 use Rattle.table_words.proofs.line_of.Tie as tie
-
-wide-requires : tie.Need-wide-requires
-wide-requires c κs = search needs
-
-wide-requires-2 : tie.Need-wide-requires-2
-wide-requires-2 c κs = search needs
-
-wide-requires-3 : tie.Need-wide-requires-3
-wide-requires-3 c κs = search needs
 
 mul-result : tie.Need-mul-result
 mul-result c = omega (arith, product-fits {a = c .before .wide2 .result} {b = c .wide3 .result} (search needs) (search needs))
@@ -28,4 +18,4 @@ returns c = (rw (c .before .before .wide .ensures, c .before .wide2 .ensures, c 
 pub line-of-spec : {M : Type 1} → statement M
 line-of-spec =
     tie.close
-    (tie.spec wide-requires wide-requires-2 wide-requires-3 mul-result add-result returns)
+    (tie.spec (search needs) (search needs) (search needs) mul-result add-result returns)

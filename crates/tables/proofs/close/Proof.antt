@@ -14,29 +14,11 @@ Inv-loop mem₀ marks p size table k₀ mem k = (k ≤ size) × (length mem ≡ 
 abbrev μ-loop : tie.MeasureT-loop
 μ-loop mem₀ marks p size table k₀ mem k = size - k
 
-of-part-requires : tie.Need-of-part-requires Inv-loop μ-loop
-of-part-requires c κs = search needs
-
-of-part-requires-2 : tie.Need-of-part-requires-2 Inv-loop μ-loop
-of-part-requires-2 c κs = search needs
-
 loop-holds : tie.Need-loop-holds Inv-loop μ-loop
 loop-holds c = (search needs, refl, closed-first _ _ _)
 
-try-halt-requires : tie.Need-try-halt-requires Inv-loop μ-loop
-try-halt-requires c κs = search needs
-
-add-k : tie.Need-add-k Inv-loop μ-loop
-add-k c = search needs
-
-loop-less : tie.Need-loop-less Inv-loop μ-loop
-loop-less c = search needs
-
 loop-again : tie.Need-loop-again Inv-loop μ-loop
 loop-again c = (search needs, c .before .before .try-halt .ensures .sized ∙ c .before .before .before .before .before .loop .inv .1, closed-turn _ _ _ _ _ _ (search needs) (c .before .before .before .before .before .before .before .before .of-part .ensures) (c .before .before .before .before .before .before .of-part2 .ensures) (c .before .before .before .before .before .loop .inv .2) (c .before .before .try-halt .ensures))
-
-same-length : tie.Need-same-length Inv-loop μ-loop
-same-length c = search needs
 
 returns : tie.Need-returns Inv-loop μ-loop
 returns c = (closed-done _ _ _ _ _ (c .before .loop .inv .0) (search needs) (c .before .before .before .before .of-part .ensures) (c .before .loop .inv .2), c .before .loop .inv .1)
@@ -47,12 +29,12 @@ close-spec =
     (tie.spec
     Inv-loop
     μ-loop
-    of-part-requires
-    of-part-requires-2
+    (search needs)
+    (search needs)
     loop-holds
-    try-halt-requires
-    add-k
-    loop-less
+    (search needs)
+    (search needs)
+    (search needs)
     loop-again
-    same-length
+    (search needs)
     returns)

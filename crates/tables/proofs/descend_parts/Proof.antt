@@ -14,26 +14,11 @@ Inv-loop mem₀ count p₀ mem p = (p ≤ count) × (length mem ≡ length mem�
 abbrev μ-loop : tie.MeasureT-loop
 μ-loop mem₀ count p₀ mem p = count - p
 
-word-requires : tie.Need-word-requires Inv-loop μ-loop
-word-requires c κs = search needs
-
 loop-holds : tie.Need-loop-holds Inv-loop μ-loop
 loop-holds c = (search needs, refl, descended-first _)
 
-descend-requires : tie.Need-descend-requires Inv-loop μ-loop
-descend-requires c κs = search needs
-
-add-p : tie.Need-add-p Inv-loop μ-loop
-add-p c = search needs
-
-loop-less : tie.Need-loop-less Inv-loop μ-loop
-loop-less c = search needs
-
 loop-again : tie.Need-loop-again Inv-loop μ-loop
 loop-again c = (search needs, c .before .before .descend .ensures .1 ∙ c .before .before .before .before .before .loop .inv .1, descended-turn _ _ _ _ (c .before .before .before .before .before .loop .inv .2) (c .before .before .descend .ensures .0))
-
-same-length : tie.Need-same-length Inv-loop μ-loop
-same-length c = search needs
 
 returns : tie.Need-returns Inv-loop μ-loop
 returns c = (descended-done _ _ _ (c .before .loop .inv .0) (search needs) (c .before .before .word .ensures) (c .before .loop .inv .2), c .before .loop .inv .1)
@@ -44,11 +29,11 @@ descend-parts-spec =
     (tie.spec
     Inv-loop
     μ-loop
-    word-requires
+    (search needs)
     loop-holds
-    descend-requires
-    add-p
-    loop-less
+    (search needs)
+    (search needs)
+    (search needs)
     loop-again
-    same-length
+    (search needs)
     returns)

@@ -14,26 +14,11 @@ Inv-loop mem₀ p size i₀ mem i = (i ≤ size) × (length mem ≡ length mem�
 abbrev μ-loop : tie.MeasureT-loop
 μ-loop mem₀ p size i₀ mem i = size - i
 
-of-part-requires : tie.Need-of-part-requires Inv-loop μ-loop
-of-part-requires c κs = search needs
-
 loop-holds : tie.Need-loop-holds Inv-loop μ-loop
 loop-holds c = (search needs, refl, entered-first _ _)
 
-enter-row-requires : tie.Need-enter-row-requires Inv-loop μ-loop
-enter-row-requires c κs = search needs
-
-add-i : tie.Need-add-i Inv-loop μ-loop
-add-i c = search needs
-
-loop-less : tie.Need-loop-less Inv-loop μ-loop
-loop-less c = search needs
-
 loop-again : tie.Need-loop-again Inv-loop μ-loop
 loop-again c = (search needs, search needs, entered-turn _ _ _ _ _ (search needs) (c .before .before .before .before .before .before .of-part .ensures) (c .before .before .before .before .before .loop .inv .2) (c .before .before .enter-row .ensures .0))
-
-same-length : tie.Need-same-length Inv-loop μ-loop
-same-length c = search needs
 
 returns : tie.Need-returns Inv-loop μ-loop
 returns c = (entered-done _ _ _ _ (c .before .loop .inv .0) (search needs) (c .before .before .of-part .ensures) (c .before .loop .inv .2), c .before .loop .inv .1)
@@ -44,11 +29,11 @@ enter-rows-spec =
     (tie.spec
     Inv-loop
     μ-loop
-    of-part-requires
+    (search needs)
     loop-holds
-    enter-row-requires
-    add-i
-    loop-less
+    (search needs)
+    (search needs)
+    (search needs)
     loop-again
-    same-length
+    (search needs)
     returns)

@@ -3,42 +3,8 @@
 use borrow.Author.Needs.{needs}
 use mathlib.Core.Path.{_∙_}
 use Rattle.assembly.proofs.Rising.{risen-step}
-use borrow.Author.Needs.{needs}
 use Rattle.tables.proofs.rise.Statement.{statement}
 use Rattle.tables.proofs.rise.Tie as tie
-
-of-part-requires : tie.Need-of-part-requires
-of-part-requires c κs = search needs
-
-of-part-requires-2 : tie.Need-of-part-requires-2
-of-part-requires-2 c κs = search needs
-
-blank-at-requires : tie.Need-blank-at-requires
-blank-at-requires c κs = search needs
-
-note-rows-requires : tie.Need-note-rows-requires
-note-rows-requires c κs = search needs
-
-slice-aggregate-take-roads : tie.Need-slice-aggregate-take-roads
-slice-aggregate-take-roads c = search needs
-
-take-roads-requires : tie.Need-take-roads-requires
-take-roads-requires c κs = search needs
-
-agree-requires : tie.Need-agree-requires
-agree-requires c κs = search needs
-
-slice-aggregate-close : tie.Need-slice-aggregate-close
-slice-aggregate-close c = search needs
-
-close-requires : tie.Need-close-requires
-close-requires c κs = search needs
-
-same-length : tie.Need-same-length
-same-length c = search needs
-
-same-length-2 : tie.Need-same-length-2
-same-length-2 c = search needs
 
 returns : tie.Need-returns
 returns c = (
@@ -50,15 +16,15 @@ pub rise-spec : {M : Type 1} → statement M
 rise-spec =
     tie.close
     (tie.spec
-    of-part-requires
-    of-part-requires-2
-    blank-at-requires
-    note-rows-requires
-    slice-aggregate-take-roads
-    take-roads-requires
-    agree-requires
-    slice-aggregate-close
-    close-requires
-    same-length
-    same-length-2
+    (search needs)
+    (search needs)
+    (search needs)
+    (search needs)
+    (search needs)
+    (search needs)
+    (search needs)
+    (search needs)
+    (search needs)
+    (search needs)
+    (search needs)
     returns)

@@ -15,20 +15,8 @@ Inv-loop mem₀ place₀ p₀ mem place p = (p ≤ p₀) × (length mem ≡ leng
 abbrev μ-loop : tie.MeasureT-loop
 μ-loop mem₀ place₀ p₀ mem place p = p
 
-word-requires : tie.Need-word-requires Inv-loop μ-loop
-word-requires c κs = search needs
-
 loop-holds : tie.Need-loop-holds Inv-loop μ-loop
 loop-holds c = (search needs, refl, refl, risen-first _ _ (c .word .ensures))
-
-sub-p : tie.Need-sub-p Inv-loop μ-loop
-sub-p c = search needs
-
-rise-requires : tie.Need-rise-requires Inv-loop μ-loop
-rise-requires c κs = search needs
-
-loop-less : tie.Need-loop-less Inv-loop μ-loop
-loop-less c = search needs
 
 loop-again : tie.Need-loop-again Inv-loop μ-loop
 loop-again c = (
@@ -37,12 +25,6 @@ loop-again c = (
   c .before .before .before .before .rise .ensures .1 .1 ∙ c .before .before .before .before .before .before .before .before .loop .inv .2,
   risen-turn _ _ _ _ _ (c .before .before .before .before .before .before .before .before .loop .inv .0) (c .before .before .before .before .before .before .before .before .before .word .ensures) (omega arith) (c .before .before .before .before .before .before .before .before .loop .inv .3) (λ m L hp few I. c .before .before .before .before .rise .ensures .0 m L hp (omega (arith, few, c .before .before .before .before .before .before .before .before .loop .inv .2)) I),
 )
-
-same-length : tie.Need-same-length Inv-loop μ-loop
-same-length c = search needs
-
-same-length-2 : tie.Need-same-length-2 Inv-loop μ-loop
-same-length-2 c = search needs
 
 returns : tie.Need-returns Inv-loop μ-loop
 returns c = (risen-done _ _ _ _ (search needs) (c .before .loop .inv .3), c .before .loop .inv .1)
@@ -53,12 +35,12 @@ rise-parts-spec =
     (tie.spec
     Inv-loop
     μ-loop
-    word-requires
+    (search needs)
     loop-holds
-    sub-p
-    rise-requires
-    loop-less
+    (search needs)
+    (search needs)
+    (search needs)
     loop-again
-    same-length
-    same-length-2
+    (search needs)
+    (search needs)
     returns)

@@ -2,21 +2,8 @@
 -- Assumes nothing.
 use borrow.Author.Needs.{needs}
 use Rattle.assembly.proofs.Rising.{halt-tried, halt-passed}
-use borrow.Author.Needs.{needs}
 use Rattle.tables.proofs.try_halt.Statement.{statement}
 use Rattle.tables.proofs.try_halt.Tie as tie
-
-wide-requires : tie.Need-wide-requires
-wide-requires c κs = search needs
-
-word-requires : tie.Need-word-requires
-word-requires c κs = search needs
-
-try-at-requires : tie.Need-try-at-requires
-try-at-requires c κs = search needs
-
-same-length : tie.Need-same-length
-same-length c = search needs
 
 returns : tie.Need-returns
 returns c = halt-tried _ _ _ (c .before .before .before .before .before .before .wide .ensures) (c .before .before .before .before .before .word .ensures) (c .before .before .before .before .if1 .taken) (c .before .before .try-at .ensures)
@@ -26,4 +13,4 @@ returns-2 c = halt-passed _ _ _ (c .before .before .wide .ensures) (c .before .w
 
 pub try-halt-spec : {M : Type 1} → statement M
 try-halt-spec =
-    tie.close (tie.spec wide-requires word-requires try-at-requires same-length returns returns-2)
+    tie.close (tie.spec (search needs) (search needs) (search needs) (search needs) returns returns-2)

@@ -14,17 +14,8 @@ Inv-loop mem counts vertex van at₀ left₀ at left = walk mem counts van at le
 abbrev μ-loop : tie.MeasureT-loop
 μ-loop mem counts vertex van at₀ left₀ at left = left
 
-vertex-at-requires : tie.Need-vertex-at-requires Inv-loop μ-loop
-vertex-at-requires c κs = search needs
-
-add-at : tie.Need-add-at Inv-loop μ-loop
-add-at c = search needs
-
 loop-holds : tie.Need-loop-holds Inv-loop μ-loop
 loop-holds c = cc
-
-word-requires : tie.Need-word-requires Inv-loop μ-loop
-word-requires c κs = search needs
 
 returns : tie.Need-returns Inv-loop μ-loop
 returns c =
@@ -37,21 +28,6 @@ returns-2 c =
     let a = c .before .before .before .before .before .before .before .args in
     let l = c .before .before .before .before .loop in
     sym (walk-past (a .mem .now) (a .counts) (a .van) (l .at) (l .left) (omega (arith, c .before .before .word .ensures))) ∙ l .inv
-
-sub-van-at : tie.Need-sub-van-at Inv-loop μ-loop
-sub-van-at c = search needs
-
-van-at-requires : tie.Need-van-at-requires Inv-loop μ-loop
-van-at-requires c κs = search needs
-
-add-at-2 : tie.Need-add-at-2 Inv-loop μ-loop
-add-at-2 c = search needs
-
-sub-left : tie.Need-sub-left Inv-loop μ-loop
-sub-left c = search needs
-
-loop-less : tie.Need-loop-less Inv-loop μ-loop
-loop-less c = search needs
 
 loop-again : tie.Need-loop-again Inv-loop μ-loop
 loop-again c =
@@ -72,16 +48,16 @@ behind-spec =
     (tie.spec
     Inv-loop
     μ-loop
-    vertex-at-requires
-    add-at
+    (search needs)
+    (search needs)
     loop-holds
-    word-requires
+    (search needs)
     returns
     returns-2
-    sub-van-at
-    van-at-requires
-    add-at-2
-    sub-left
-    loop-less
+    (search needs)
+    (search needs)
+    (search needs)
+    (search needs)
+    (search needs)
     loop-again
     returns-3)

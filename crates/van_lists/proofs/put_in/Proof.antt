@@ -5,33 +5,6 @@ use borrow.Author.Needs.{needs}
 use Rattle.van_lists.proofs.put_in.Statement.{statement}
 use Rattle.van_lists.proofs.put_in.Tie as tie
 
-van-at-requires : tie.Need-van-at-requires
-van-at-requires c κs = search needs
-
-add-link : tie.Need-add-link
-add-link c = search needs
-
-behind-requires : tie.Need-behind-requires
-behind-requires c κs = search needs
-
-word-requires : tie.Need-word-requires
-word-requires c κs = search needs
-
-add-put : tie.Need-add-put
-add-put c = search needs
-
-put-requires : tie.Need-put-requires
-put-requires c κs = search needs
-
-put-requires-2 : tie.Need-put-requires-2
-put-requires-2 c κs = search needs
-
-write-van-requires : tie.Need-write-van-requires
-write-van-requires c κs = search needs
-
-same-length : tie.Need-same-length
-same-length c = search needs
-
 returns : tie.Need-returns
 returns c =
     let a = c .before .before .before .before .before .before .before .before .before .before .before .before .before .before .before .before .before .before .args in
@@ -47,13 +20,13 @@ pub put-in-spec : {M : Type 1} → statement M
 put-in-spec =
     tie.close
     (tie.spec
-    van-at-requires
-    add-link
-    behind-requires
-    word-requires
-    add-put
-    put-requires
-    put-requires-2
-    write-van-requires
-    same-length
+    (search needs)
+    (search needs)
+    (search needs)
+    (search needs)
+    (search needs)
+    (search needs)
+    (search needs)
+    (search needs)
+    (search needs)
     returns)

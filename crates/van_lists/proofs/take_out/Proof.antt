@@ -5,30 +5,6 @@ use borrow.Author.Needs.{needs}
 use Rattle.van_lists.proofs.take_out.Statement.{statement}
 use Rattle.van_lists.proofs.take_out.Tie as tie
 
-van-at-requires : tie.Need-van-at-requires
-van-at-requires c κs = search needs
-
-add-link : tie.Need-add-link
-add-link c = search needs
-
-word-requires : tie.Need-word-requires
-word-requires c κs = search needs
-
-behind-requires : tie.Need-behind-requires
-behind-requires c κs = search needs
-
-put-requires : tie.Need-put-requires
-put-requires c κs = search needs
-
-put-requires-2 : tie.Need-put-requires-2
-put-requires-2 c κs = search needs
-
-write-van-requires : tie.Need-write-van-requires
-write-van-requires c κs = search needs
-
-same-length : tie.Need-same-length
-same-length c = search needs
-
 returns : tie.Need-returns
 returns c =
     let a = c .before .before .before .before .before .before .before .before .before .before .before .before .before .before .before .before .before .before .args in
@@ -44,12 +20,12 @@ pub take-out-spec : {M : Type 1} → statement M
 take-out-spec =
     tie.close
     (tie.spec
-    van-at-requires
-    add-link
-    word-requires
-    behind-requires
-    put-requires
-    put-requires-2
-    write-van-requires
-    same-length
+    (search needs)
+    (search needs)
+    (search needs)
+    (search needs)
+    (search needs)
+    (search needs)
+    (search needs)
+    (search needs)
     returns)

@@ -9,9 +9,6 @@ use Rattle.words.specs.Tests.{within}
 use Rattle.counts.proofs.Counts.fit.Statement.{statement}
 use Rattle.counts.proofs.Counts.fit.Tie as tie
 
-is-within-requires : tie.Need-is-within-requires
-is-within-requires c κs = search needs
-
 returns : tie.Need-returns
 returns c =
     ap (λ (b : Bool). b && leb (c .before .before .args .self .roads) 16384 && within 1 512 (c .before .before .args .self .parts))
@@ -23,9 +20,6 @@ returns-2 c =
     (sym (not-false _ (c .before .before .if1 .left)) ∙ c .before .before .before .is-within .ensures)
     (sym (lt-leb _ _ (c .if2 .taken)))
 
-is-within-requires-2 : tie.Need-is-within-requires-2
-is-within-requires-2 c κs = search needs
-
 returns-3 : tie.Need-returns-3
 returns-3 c =
     c .is-within2 .ensures
@@ -34,4 +28,4 @@ returns-3 c =
     (sym (le-leb _ _ (c .before .if2 .left)))
 
 pub fit-spec : {M : Type 1} → statement M
-fit-spec = tie.close (tie.spec is-within-requires returns returns-2 is-within-requires-2 returns-3)
+fit-spec = tie.close (tie.spec (search needs) returns returns-2 (search needs) returns-3)

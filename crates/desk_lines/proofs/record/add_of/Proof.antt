@@ -12,21 +12,9 @@ returns : tie.Need-returns
 unfolding addOf
 returns c = sized-no 10 (c .before .before .args .body .now) _ (c .if1 .taken)
 
-number2-requires : tie.Need-number2-requires
-number2-requires c κs = search needs
-
-number2-requires-2 : tie.Need-number2-requires-2
-number2-requires-2 c κs = search needs
-
-number2-requires-3 : tie.Need-number2-requires-3
-number2-requires-3 c κs = search needs
-
-number4-requires : tie.Need-number4-requires
-number4-requires c κs = search needs
-
 returns-2 : tie.Need-returns-2
 unfolding addOf
 returns-2 c = sized-yes 10 (c .before .before .before .before .before .before .args .body .now) _ _ (c .before .before .before .before .if1 .left) (λ i. Changes (Add ((c .before .before .before .number2 .ensures .0) i) ((c .before .before .number22 .ensures .0) i) ((c .before .number23 .ensures .0) i) ((c .number4 .ensures) i)))
 
 pub add-of-spec : {M : Type 1} → statement M
-add-of-spec = tie.close (tie.spec returns number2-requires number2-requires-2 number2-requires-3 number4-requires returns-2)
+add-of-spec = tie.close (tie.spec returns (search needs) (search needs) (search needs) (search needs) returns-2)

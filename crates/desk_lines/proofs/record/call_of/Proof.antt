@@ -9,24 +9,6 @@ use Rattle.desk_lines.proofs.Sized.{below-calls, above-calls}
 use Rattle.desk_lines.proofs.record.call_of.Statement.{statement}
 use Rattle.desk_lines.proofs.record.call_of.Tie as tie
 
-add-of-requires : tie.Need-add-of-requires
-add-of-requires c κs = search needs
-
-move-of-requires : tie.Need-move-of-requires
-move-of-requires c κs = search needs
-
-remove-of-requires : tie.Need-remove-of-requires
-remove-of-requires c κs = search needs
-
-claim-of-requires : tie.Need-claim-of-requires
-claim-of-requires c κs = search needs
-
-release-of-requires : tie.Need-release-of-requires
-release-of-requires c κs = search needs
-
-question-of-requires : tie.Need-question-of-requires
-question-of-requires c κs = search needs
-
 returns : tie.Need-returns
 unfolding callOf
 returns c = c .add-of .ensures ∙ ap (λ (kind : ℕ). callOf kind (c .before .before .before .args .body .now)) (sym (c .before .match .keys1))
@@ -58,4 +40,4 @@ returns-8 : tie.Need-returns-8
 returns-8 c = above-calls (c .before .before .before .args .kind) (c .before .before .before .args .body .now) (omega arith)
 
 pub call-of-spec : {M : Type 1} → statement M
-call-of-spec = tie.close (tie.spec add-of-requires move-of-requires remove-of-requires claim-of-requires release-of-requires question-of-requires returns returns-2 returns-3 returns-4 returns-5 returns-6 returns-7 returns-8)
+call-of-spec = tie.close (tie.spec (search needs) (search needs) (search needs) (search needs) (search needs) (search needs) returns returns-2 returns-3 returns-4 returns-5 returns-6 returns-7 returns-8)

@@ -12,18 +12,9 @@ returns : tie.Need-returns
 unfolding claimOf
 returns c = sized-no 7 (c .before .before .args .body .now) _ (c .if1 .taken)
 
-number2-requires : tie.Need-number2-requires
-number2-requires c κs = search needs
-
-number4-requires : tie.Need-number4-requires
-number4-requires c κs = search needs
-
-number1-requires : tie.Need-number1-requires
-number1-requires c κs = search needs
-
 returns-2 : tie.Need-returns-2
 unfolding claimOf
 returns-2 c = sized-yes 7 (c .before .before .before .before .before .args .body .now) _ _ (c .before .before .before .if1 .left) (λ i. Changes (Claim ((c .before .before .number2 .ensures .0) i) ((c .before .number4 .ensures) i) ((c .number1 .ensures) i)))
 
 pub claim-of-spec : {M : Type 1} → statement M
-claim-of-spec = tie.close (tie.spec returns number2-requires number4-requires number1-requires returns-2)
+claim-of-spec = tie.close (tie.spec returns (search needs) (search needs) (search needs) returns-2)

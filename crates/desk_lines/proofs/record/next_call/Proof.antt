@@ -11,9 +11,6 @@ use Rattle.desk_lines.proofs.record.next_call.Tie as tie
 returns : tie.Need-returns
 returns c = turn-over (c .before .before .args .bytes .now) (c .if1 .taken)
 
-record-size-requires : tie.Need-record-size-requires
-record-size-requires c κs = search needs
-
 returns-2 : tie.Need-returns-2
 returns-2 c = turn-bad (c .before .before .before .before .args .bytes .now) _ 0 (c .before .record-size .ensures) (c .before .before .if1 .left) (c .if2 .taken)
 
@@ -26,18 +23,6 @@ part-body-start c = omega (arith, size-room (c .before .before .before .before .
 part-body-end : tie.Need-part-body-end
 part-body-end c = omega (arith, size-room (c .before .before .before .before .args .bytes .now) _ 0 (c .before .record-size .ensures) (c .if2 .left) .1)
 
-number2-requires : tie.Need-number2-requires
-number2-requires c κs = search needs
-
-call-of-requires : tie.Need-call-of-requires
-call-of-requires c κs = search needs
-
-enum-told : tie.Need-enum-told
-enum-told c = search needs
-
-enum-known-call : tie.Need-enum-known-call
-enum-known-call c = search needs
-
 returns-3 : tie.Need-returns-3
 returns-3 c =
     turn-call (c .before .before .before .before .before .before .before .before .before .args .bytes .now) _ _ (c .before .before .before .before .before .before .record-size .ensures) (c .before .before .before .number2 .ensures .0) (c .before .before .before .before .before .before .before .if1 .left) (c .before .before .before .before .before .if2 .left) Request.Bad (sym (c .enum-told .given .1) ∙ c .before .before .call-of .ensures)
@@ -47,4 +32,4 @@ returns-4 c =
     turn-call (c .before .before .before .before .before .before .before .before .before .before .args .bytes .now) _ _ (c .before .before .before .before .before .before .before .record-size .ensures) (c .before .before .before .before .number2 .ensures .0) (c .before .before .before .before .before .before .before .before .if1 .left) (c .before .before .before .before .before .before .if2 .left) _ (sym (c .before .call .given .1) ∙ c .before .before .before .call-of .ensures)
 
 pub next-call-spec : {M : Type 1} → statement M
-next-call-spec = tie.close (tie.spec returns record-size-requires returns-2 sub-body part-body-start part-body-end number2-requires call-of-requires enum-told enum-known-call returns-3 returns-4)
+next-call-spec = tie.close (tie.spec returns (search needs) returns-2 sub-body part-body-start part-body-end (search needs) (search needs) (search needs) (search needs) returns-3 returns-4)

@@ -8,9 +8,6 @@ use Rattle.desk_lines.proofs.Sized.{field-one}
 use Rattle.desk_lines.proofs.record.number1.Statement.{statement}
 use Rattle.desk_lines.proofs.record.number1.Tie as tie
 
-shared-slice-read-result : tie.Need-shared-slice-read-result
-shared-slice-read-result c = search needs
-
 cast-result : tie.Need-cast-result
 cast-result c = omega (arith, c .shared-slice-known .given (c .before .before .args .at))
 
@@ -21,4 +18,4 @@ returns-2 : tie.Need-returns-2
 returns-2 c = field-past (c .before .args .bytes .now) (c .before .args .at) 1 (c .if1 .left)
 
 pub number1-spec : {M : Type 1} → statement M
-number1-spec = tie.close (tie.spec shared-slice-read-result cast-result returns returns-2)
+number1-spec = tie.close (tie.spec (search needs) cast-result returns returns-2)

@@ -11,15 +11,9 @@ returns : tie.Need-returns
 unfolding questionOf
 returns c = sized-no 4 (c .before .before .args .body .now) _ (c .if1 .taken)
 
-number2-requires : tie.Need-number2-requires
-number2-requires c κs = search needs
-
-number2-requires-2 : tie.Need-number2-requires-2
-number2-requires-2 c κs = search needs
-
 returns-2 : tie.Need-returns-2
 unfolding questionOf
 returns-2 c = sized-yes 4 (c .before .before .before .before .args .body .now) _ _ (c .before .before .if1 .left) (λ i. Asks ((c .before .number2 .ensures .0) i) ((c .number22 .ensures .0) i))
 
 pub question-of-spec : {M : Type 1} → statement M
-question-of-spec = tie.close (tie.spec returns number2-requires number2-requires-2 returns-2)
+question-of-spec = tie.close (tie.spec returns (search needs) (search needs) returns-2)

@@ -12,15 +12,9 @@ returns : tie.Need-returns
 unfolding releaseOf
 returns c = sized-no 3 (c .before .before .args .body .now) _ (c .if1 .taken)
 
-number2-requires : tie.Need-number2-requires
-number2-requires c κs = search needs
-
-number1-requires : tie.Need-number1-requires
-number1-requires c κs = search needs
-
 returns-2 : tie.Need-returns-2
 unfolding releaseOf
 returns-2 c = sized-yes 3 (c .before .before .before .before .args .body .now) _ _ (c .before .before .if1 .left) (λ i. Changes (Release ((c .before .number2 .ensures .0) i) ((c .number1 .ensures) i)))
 
 pub release-of-spec : {M : Type 1} → statement M
-release-of-spec = tie.close (tie.spec returns number2-requires number1-requires returns-2)
+release-of-spec = tie.close (tie.spec returns (search needs) (search needs) returns-2)

@@ -12,12 +12,9 @@ returns : tie.Need-returns
 unfolding removeOf
 returns c = sized-no 2 (c .before .before .args .body .now) _ (c .if1 .taken)
 
-number2-requires : tie.Need-number2-requires
-number2-requires c κs = search needs
-
 returns-2 : tie.Need-returns-2
 unfolding removeOf
 returns-2 c = sized-yes 2 (c .before .before .before .args .body .now) _ _ (c .before .if1 .left) (λ i. Changes (Remove ((c .number2 .ensures .0) i)))
 
 pub remove-of-spec : {M : Type 1} → statement M
-remove-of-spec = tie.close (tie.spec returns number2-requires returns-2)
+remove-of-spec = tie.close (tie.spec returns (search needs) returns-2)

@@ -19,34 +19,13 @@ abbrev μ-loop : tie.MeasureT-loop
 loop-holds : tie.Need-loop-holds Inv-loop μ-loop
 loop-holds c = (omega arith, refl)
 
-add-if1 : tie.Need-add-if1 Inv-loop μ-loop
-add-if1 c = omega arith
-
 returns : tie.Need-returns Inv-loop μ-loop
 returns c = sym (take-ended (c .before .before .before .before .args .bytes .now) (c .before .before .loop .at) (c .before .before .loop .left) (c .before .loop-test .taken) (c .if1 .taken)) ∙ c .before .before .loop .inv .1
-
-add-end : tie.Need-add-end Inv-loop μ-loop
-add-end c = omega arith
-
-number4-requires : tie.Need-number4-requires Inv-loop μ-loop
-number4-requires c κs = search needs
-
-cast-end : tie.Need-cast-end Inv-loop μ-loop
-cast-end c = search needs
-
-add-end-2 : tie.Need-add-end-2 Inv-loop μ-loop
-add-end-2 c = search needs
 
 returns-2 : tie.Need-returns-2 Inv-loop μ-loop
 returns-2 c =
     sym (take-long (c .before .before .before .before .before .before .args .bytes .now) (c .before .before .before .before .loop .at) _ (c .before .number4 .ensures) (c .before .before .before .before .loop .left) (c .before .before .before .loop-test .taken) (c .before .before .if1 .left) (c .if2 .taken))
     ∙ c .before .before .before .before .loop .inv .1
-
-sub-left : tie.Need-sub-left Inv-loop μ-loop
-sub-left c = omega arith
-
-loop-less : tie.Need-loop-less Inv-loop μ-loop
-loop-less c = omega arith
 
 loop-again : tie.Need-loop-again Inv-loop μ-loop
 loop-again c = (
@@ -61,4 +40,4 @@ returns-3 c = sym (none-left (c .before .before .before .args .bytes .now) (c .b
 pub take-map-spec : {M : Type 1} → statement M
 take-map-spec =
     tie.close
-    (tie.spec Inv-loop μ-loop loop-holds add-if1 returns add-end number4-requires cast-end add-end-2 returns-2 sub-left loop-less loop-again returns-3)
+    (tie.spec Inv-loop μ-loop loop-holds (search needs) returns (search needs) (search needs) (search needs) (search needs) returns-2 (search needs) (search needs) loop-again returns-3)

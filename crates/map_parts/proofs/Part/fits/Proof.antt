@@ -17,17 +17,11 @@ by-leaf : (children homes : ℕ) {leaf : Bool} → eqb children 0 ≡ leaf → c
 unfolding family
 by-leaf children homes e = ap (λ (leaf : Bool). cond leaf (within 1 mostInLeaf homes) (within fewestChildren mostChildren children)) (sym e)
 
-is-within-requires : tie.Need-is-within-requires
-is-within-requires c κs = search needs
-
 returns : tie.Need-returns
 returns c = c .is-within .ensures ∙ by-leaf _ _ (eq-eqb _ _ (c .before .if1 .taken))
-
-is-within-requires-2 : tie.Need-is-within-requires-2
-is-within-requires-2 c κs = search needs
 
 returns-2 : tie.Need-returns-2
 returns-2 c = c .is-within2 .ensures ∙ by-leaf _ _ (ne-eqb _ _ (c .before .if1 .left))
 
 pub fits-spec : {M : Type 1} → statement M
-fits-spec = tie.close (tie.spec is-within-requires returns is-within-requires-2 returns-2)
+fits-spec = tie.close (tie.spec (search needs) returns (search needs) returns-2)

@@ -1,2 +1,0 @@
--- The counts of a map and its need.
-pub mod Counted
