@@ -38,7 +38,7 @@ pub fn files() -> Files {
     }
     let mut runs = Vec::new();
     for (index, (what, map, calls)) in maps().into_iter().enumerate() {
-        let input = random_desk_input(&mut Dice::new(500 + index as u64), &map, calls);
+        let input = random_run(500 + 100 * index as u64, &map, calls);
         pack(&mut runs, &input);
         writeln!(contents, "rows {index} {what}, {calls} calls").unwrap();
         writeln!(out, "rows {index}").unwrap();
@@ -50,6 +50,14 @@ pub fn files() -> Files {
         ("data/contents.txt".into(), contents.into_bytes()),
         ("stdout".into(), out.into_bytes()),
     ]
+}
+
+/// The first random input from a seed on in which at least half of the calls are accepted changes.
+fn random_run(seed: u64, map: &Map, calls: usize) -> Vec<u8> {
+    (seed..)
+        .map(|seed| random_desk_input(&mut Dice::new(seed), map, calls))
+        .find(|input| transcript(input).matches(" ok ").count() * 2 >= calls)
+        .expect("some seed gives such an input")
 }
 
 /// The lines of an input whose records are all good, with all rows after the opening and after each accepted change.
