@@ -1,10 +1,11 @@
 // Runs the stored inputs of the desk program through its library. Before the lines of each stands a line with its group and number. In the group
 // `rows` every row stands after each accepted change: vertex and distance, part by part. What a second program, written from the scope alone,
 // prints for the same inputs must come out.
-use answers::Reply;
 use cells::wide;
 use cells::word;
 use counts::Counts;
+use desk_calls::change_line;
+use desk_calls::make_change;
 use desk_lines::Call;
 use desk_lines::Line;
 use desk_lines::Opening;
@@ -76,39 +77,13 @@ fn write_rows(memory: &[u32; 16384], place: u32) {
     io::write_all(STDOUT_FILENO, b"\n");
 }
 
-fn make(memory: &mut [u32; 16384], change: Change) -> Reply {
-    match change {
-        Change::Add {
-            van,
-            from,
-            to,
-            offset,
-        } => hailtrellis::add(memory, van, from, to, offset),
-        Change::Move {
-            van,
-            from,
-            to,
-            offset,
-        } => hailtrellis::move_van(memory, van, from, to, offset),
-        Change::Remove { van } => hailtrellis::remove(memory, van),
-        Change::Claim { van, stamp, desk } => hailtrellis::claim(memory, van, stamp, desk),
-        Change::Release { van, desk } => hailtrellis::release(memory, van, desk),
-    }
-}
-
 fn change(memory: &mut [u32; 16384], place: u32, change: Change, rows: bool) {
-    let reply = make(memory, change);
-    let number = reply.number();
-    if number != 0 {
-        print(Line::No { place, number });
-        return;
-    }
-    print(Line::Ok {
-        place,
-        stamp: reply.value(),
-    });
+    let reply = make_change(memory, change);
+    print(change_line(place, reply));
     if rows {
-        write_rows(memory, place);
+        if reply.number() == 0 {
+            write_rows(memory, place);
+        }
     }
 }
 
