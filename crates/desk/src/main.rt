@@ -1,7 +1,8 @@
 // The desk program: reads a map, an opening record and calls from standard input, and writes what each gets. What the bytes and the
-// lines are is proved in `desk_lines`, and what the calls do in `hailtrellis`; this program only reads, calls and writes.
-use answers::Reply;
+// lines are is proved in `desk_lines`, what a change does and the line that it gets in `desk_calls`; this program only reads, calls and writes.
 use counts::Counts;
+use desk_calls::change_line;
+use desk_calls::make_change;
 use desk_lines::Call;
 use desk_lines::Line;
 use desk_lines::Opening;
@@ -11,7 +12,6 @@ use desk_lines::next_call;
 use desk_lines::opening_of;
 use desk_lines::take_map;
 use desk_lines::write_line;
-use fleet::Change;
 use libc::STDIN_FILENO;
 use libc::STDOUT_FILENO;
 use map_judge::Judgement;
@@ -68,38 +68,6 @@ fn flush(out: &[u8], at: usize)
     requires { ⌜ at ≤ length (now out) ⌝ }
 {
     io::write_all(STDOUT_FILENO, &out[..at]);
-}
-
-// What a change gets.
-fn change_line(place: u32, reply: Reply) -> Line {
-    let number = reply.number();
-    if number == 0 {
-        return Line::Ok {
-            place,
-            stamp: reply.value(),
-        };
-    }
-    Line::No { place, number }
-}
-
-fn change(memory: &mut [u32; 16384], change: Change) -> Reply {
-    match change {
-        Change::Add {
-            van,
-            from,
-            to,
-            offset,
-        } => hailtrellis::add(memory, van, from, to, offset),
-        Change::Move {
-            van,
-            from,
-            to,
-            offset,
-        } => hailtrellis::move_van(memory, van, from, to, offset),
-        Change::Remove { van } => hailtrellis::remove(memory, van),
-        Change::Claim { van, stamp, desk } => hailtrellis::claim(memory, van, stamp, desk),
-        Change::Release { van, desk } => hailtrellis::release(memory, van, desk),
-    }
 }
 
 // The list's length, and a line for each van.
@@ -166,7 +134,7 @@ fn serve(
 {
     match call {
         Call::Changes(c) => {
-            let reply = change(memory, c);
+            let reply = make_change(memory, c);
             emit(out, at, change_line(place, reply))
         }
         Call::Asks { vertex, k } => question(memory, answer, out, at, place, vertex, k),

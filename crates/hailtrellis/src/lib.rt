@@ -16,30 +16,26 @@ pub fn open(map: &[u8], memory: &mut [u32], start: u32) -> Reply
 pub fn add(memory: &mut [u32], van: u32, from: u32, to: u32, offset: u32) -> Reply
     ensures { λ r. ⌜ Added (now (memory .entry)) van from to offset (answered r) (now (memory .exit)) ⌝ }
 {
-    changes::change(
-        memory,
-        Change::Add {
-            van,
-            from,
-            to,
-            offset,
-        },
-    )
+    let added = Change::Add {
+        van,
+        from,
+        to,
+        offset,
+    };
+    changes::change(memory, added)
 }
 
 // Changes the place of a van, free or held.
 pub fn move_van(memory: &mut [u32], van: u32, from: u32, to: u32, offset: u32) -> Reply
     ensures { λ r. ⌜ Moved (now (memory .entry)) van from to offset (answered r) (now (memory .exit)) ⌝ }
 {
-    changes::change(
-        memory,
-        Change::Move {
-            van,
-            from,
-            to,
-            offset,
-        },
-    )
+    let moved = Change::Move {
+        van,
+        from,
+        to,
+        offset,
+    };
+    changes::change(memory, moved)
 }
 
 // Takes out a free van.

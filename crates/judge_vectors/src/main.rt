@@ -1,45 +1,13 @@
 // Judges every map of the stored packs and writes a line for each: `GROUP INDEX refused N`, or `GROUP INDEX sound` with the
-// numbers of vertices, roads and parts and the need in words. A pack is maps one after the other, each as its length (4 bytes,
-// little-endian) and its bytes. The answers of a second program, written from the scope alone, are what must come out.
+// numbers of vertices, roads and parts and the need in words. The answers of a second program, written from the scope alone, are what
+// must come out.
 use libc::STDOUT_FILENO;
-use map_bytes::number4;
 use map_judge::Judgement;
 use map_judge::judge_map;
-ghost use mathlib.Core.Path.{_≡_};
+use packs::Entry;
+use packs::entry_at;
 ghost use Prim.Native.Nat.{_<_, _≤_};
 ghost use lib.ListN.{length};
-ghost use Rattle.judge_vectors.specs.Pack.{entryAt};
-
-// What stands at a place of a pack.
-pub enum Entry {
-    // A map: the bytes from start to end.
-    Map { start: usize, end: usize },
-    // A length that the pack does not hold.
-    Cut,
-    // Nothing.
-    End,
-}
-
-fn entry_at(pack: &[u8], at: usize) -> Entry
-    ensures { λ r. ⌜ r ≡ entryAt (now (pack .entry)) at ⌝ }
-{
-    let end = pack.len();
-    if end <= at {
-        return Entry::End;
-    }
-    if end - at < 4 {
-        return Entry::Cut;
-    }
-    let start = at + 4;
-    let len = number4(pack, at) as usize;
-    if end - start < len {
-        return Entry::Cut;
-    }
-    Entry::Map {
-        start,
-        end: start + len,
-    }
-}
 
 fn write_number(n: u64) {
     io::write_all(STDOUT_FILENO, b" ");
@@ -69,7 +37,7 @@ fn judge_entry(pack: &[u8], at: usize) -> usize
     ensures { λ r. ⌜ (at < r) × (r ≤ length (now (pack .entry))) ⌝ }
 {
     let entry = entry_at(pack, at);
-    if let Entry::Map { start, end } = entry {
+    if let Entry::Item { start, end } = entry {
         write_judgement(judge_map(&pack[start..end]));
         return end;
     }

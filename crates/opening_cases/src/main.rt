@@ -97,9 +97,18 @@ fn open_limit() {
     open_case(b"limit", b"limit.map", 3, 29831, 0, 6);
 }
 
+// More borders than a part may have get 3, also where the memory is below the need.
+fn open_past() {
+    open_case(b"past", b"past.map", 4, 30142, 0, 6);
+    open_case(b"past", b"past.map", 4, 30141, 0, 6);
+    open_case(b"past", b"past.map", 4, 64, 0, 6);
+    open_case(b"past", b"past.map", 4, 0, 0, 6);
+}
+
 fn main() {
     open_small();
     open_one();
     open_apart();
     open_limit();
+    open_past();
 }

@@ -129,6 +129,23 @@ impl Cutter<'_> {
         }
         Part { vertices, children }
     }
+
+    /// The halves of the last leaf in its place: one part more, and its parent has three children.
+    fn halve_last_leaf(&mut self, part: &mut Part) {
+        let Some(mut last) = part.children.pop() else {
+            return;
+        };
+        if last.children.is_empty() && last.vertices.len() > 1 {
+            let (a, b) = self.halves(&last.vertices);
+            part.children.extend([a, b].map(|vertices| Part {
+                vertices,
+                children: Vec::new(),
+            }));
+        } else {
+            self.halve_last_leaf(&mut last);
+            part.children.push(last);
+        }
+    }
 }
 
 /// The map of a network, or nothing where the cuts do not keep within the limits of a map.
@@ -136,8 +153,8 @@ pub fn cut(network: &Network) -> Option<Map> {
     cut_so(network, false)
 }
 
-/// The map of a network cut into equal halves again and again, down to leaves of at most half their limit: with 4,096 vertices one part
-/// fewer than a map may have.
+/// The map of a network cut into equal halves again and again, down to leaves of at most half their limit. Halves alone make an odd number
+/// of parts; the last leaf is cut once more, so that 4,096 vertices give as many parts as a map may have.
 pub fn cut_finely(network: &Network) -> Option<Map> {
     cut_so(network, true)
 }
@@ -156,7 +173,10 @@ fn cut_so(network: &Network, finely: bool) -> Option<Map> {
         mark: vec![0; n],
         marks: 0,
     };
-    let whole = cutter.part((0..n).collect());
+    let mut whole = cutter.part((0..n).collect());
+    if finely {
+        cutter.halve_last_leaf(&mut whole);
+    }
     let mut map = Map {
         parents: Vec::new(),
         leaves: vec![0; n],

@@ -82,7 +82,7 @@ fn the_largest_map_is_as_large_as_may_be() {
         check_map(&network, &map, seed);
         assert_eq!(map.leaves.len(), 4_096);
         assert_eq!(map.roads.len(), MOST_ROADS);
-        assert_eq!(map.parents.len(), MOST_PARTS - 1);
+        assert_eq!(map.parents.len(), MOST_PARTS);
     }
 }
 

@@ -286,6 +286,7 @@ fn refusals(add: &mut dyn FnMut(&str, Vec<u8>)) {
             ],
         ),
     );
+    add("neighbouring_refusals", neighbours(&small));
     add(
         "one_vertex",
         run(
@@ -307,6 +308,43 @@ fn refusals(add: &mut dyn FnMut(&str, Vec<u8>)) {
     many.push(Call::Question(2, 32));
     many.push(Call::Question(2, 31));
     add("sixty_vans_at_one_place", run(&small, 0, &many));
+}
+
+/// Calls that two neighbours of their order of refusals fit, the count at its end for the last pairs; the earlier one is given. Van 0 is free, van 1 is
+/// held by desk 7, and van 5 is not there.
+fn neighbours(map: &Map) -> Vec<u8> {
+    let start = u32::MAX - 4;
+    let calls = [
+        Call::Add(0, 0, 1, 1),
+        Call::Add(1, 2, 3, 0),
+        Call::Claim(1, start + 2, 7),
+        Call::Add(0, 1, 4, 0),
+        Call::Add(5, 1, 4, u32::MAX),
+        Call::Move(1_024, 0, 1, 0),
+        Call::Move(5, 1, 4, 0),
+        Call::Move(0, 1, 4, u32::MAX),
+        Call::Remove(1_024),
+        Call::Claim(1_024, 0, 7),
+        Call::Claim(5, 0, 0),
+        Call::Claim(1, 0, 9),
+        Call::Release(1_024, 7),
+        Call::Release(5, 0),
+        Call::Release(5, 7),
+        Call::Move(0, 0, 1, 2),
+        Call::Add(5, 0, 1, 9),
+        Call::Add(5, 0, 1, 1),
+        Call::Move(0, 0, 1, 9),
+        Call::Move(0, 0, 1, 1),
+        Call::Remove(1),
+        Call::Remove(0),
+        Call::Claim(0, 0, 9),
+        Call::Claim(0, u32::MAX, 9),
+        Call::Release(0, 7),
+        Call::Release(1, 8),
+        Call::Release(1, 7),
+        Call::Question(1, 2),
+    ];
+    run(map, start, &calls)
 }
 
 /// Random calls on random maps.

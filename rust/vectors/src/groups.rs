@@ -320,7 +320,7 @@ fn limits() -> Vec<Vector> {
     vectors
 }
 
-/// Two refusals broken at once, for each neighbouring pair of the order; the earlier one is given.
+/// Two refusals broken at once, for each neighbouring pair of the order but the last, which asks for memory; the earlier one is given.
 fn order() -> Vec<Vector> {
     let small = Records::of(&small_map());
     let mut vectors = Vec::new();

@@ -11,21 +11,15 @@
 //!
 //! `vectors desk DIRECTORY` writes inputs of the desk program as `NAME.in` with what it prints as `NAME.out`.
 //!
-//! `vectors runs DIRECTORY` writes runs of calls: `runs.pack` in the same form, in turn a map and the records of the desk program that
-//! follow it (the opening record and the calls), and for the runs, counted from 0,
-//!
-//! - `runs.tables`: `RUN PART DISTANCE ..`, a line for each part with the words of its table;
-//! - `runs.answers`: `RUN LINE`, the lines that the desk program would print;
-//! - `runs.rows`: `RUN PLACE VERTEX:DISTANCE ..`, after the opening (place 0) and after each accepted change the rows of all parts in
-//!   the order of the memory.
+//! `vectors cases DIRECTORY` writes the inputs that the program `desk_cases` runs, as packs below `data/`, and what it prints as `stdout`.
 //!
 //! `vectors opening DIRECTORY` writes the maps that the program `opening_cases` opens, below `data/`, and what it prints as `stdout`.
 
 mod build;
+mod cases;
 mod desk;
 mod groups;
 mod opening;
-mod runs;
 
 use reference::{judge, need};
 use std::fmt::Write;
@@ -47,12 +41,12 @@ fn main() -> std::io::Result<()> {
     match arguments.as_slice() {
         [directory] => write_all(Path::new(directory), &maps()),
         [kind, directory] if kind == "desk" => write_all(Path::new(directory), &desk_inputs()),
-        [kind, directory] if kind == "runs" => write_all(Path::new(directory), &runs::files()),
+        [kind, directory] if kind == "cases" => write_all(Path::new(directory), &cases::files()),
         [kind, directory] if kind == "opening" => {
             write_all(Path::new(directory), &opening::files())
         }
         _ => Err(std::io::Error::other(
-            "usage: vectors [desk | runs | opening] DIRECTORY",
+            "usage: vectors [desk | cases | opening] DIRECTORY",
         )),
     }
 }
@@ -146,20 +140,22 @@ mod tests {
     fn what_is_stored_is_what_is_written() {
         stored("../../crates/judge_vectors/data", &maps());
         stored("../desk_ref/stored", &desk_inputs());
+        stored("../../crates/opening_cases", &opening::files());
+        stored("../../crates/desk_cases", &cases::files());
     }
 
     #[test]
     fn the_runs_have_changes_and_lists() {
-        let files = runs::files();
-        let rows = String::from_utf8(files[3].1.clone()).unwrap();
-        assert!(rows.lines().count() > 250);
-        let answers = String::from_utf8(files[2].1.clone()).unwrap();
-        assert!(
-            answers
-                .lines()
-                .filter(|line| line.contains(" list "))
+        let files = cases::files();
+        let out = String::from_utf8(files[3].1.clone()).unwrap();
+        let runs = &out[out.find("rows 0").unwrap()..];
+        let lines = |word: &str| {
+            let word = Some(word);
+            runs.lines()
+                .filter(|line| line.split(' ').nth(1) == word)
                 .count()
-                > 50
-        );
+        };
+        assert!(lines("rows") > 250);
+        assert!(lines("list") > 50);
     }
 }

@@ -1,5 +1,6 @@
 //! The maps that the program `opening_cases` opens, and what it must print: for each case the words lent, the number and the value of the answer, the
-//! first six words, chosen words, and a digest of all words lent. Words that an opening leaves alone are 7.
+//! first six words, chosen words, and a digest of all words lent. Words that an opening leaves alone are 7. Among them are the last two neighbours of
+//! the order of refusals, the border limit and a memory below the need; the other pairs are in the group `order` of the judged maps.
 
 use crate::Files;
 use reference::{need, small_map, Map, Road, State};
@@ -56,9 +57,22 @@ fn limit() -> Map {
     map(parents, (0..128).map(|v| 1 + v / 16).collect(), roads)
 }
 
+/// One vertex more in the last leaf, with a road into the first: 129 borders.
+fn past(limit: &Map) -> Map {
+    let mut past = limit.clone();
+    let vertex = past.leaves.len() as u16;
+    past.leaves.push(8);
+    past.roads.push(Road {
+        from: vertex,
+        to: 0,
+        weight: 5,
+    });
+    past
+}
+
 fn words(out: &mut String, memory: &[u32], from: usize, to: usize) {
     write!(out, "{from} to {to}:").unwrap();
-    for word in &memory[from..to] {
+    for word in memory.iter().take(to).skip(from) {
         write!(out, " {word}").unwrap();
     }
     out.push('\n');
@@ -86,6 +100,7 @@ fn case(out: &mut String, name: &str, map: &Map, start: u32, lent: usize, from: 
 /// The maps below `data/`, and `stdout`.
 pub fn files() -> Files {
     let (small, one, apart, limit) = (small_map(), one(), apart(), limit());
+    let past = past(&limit);
     let mut out = String::new();
     let o = &mut out;
     case(
@@ -132,11 +147,15 @@ pub fn files() -> Files {
         need(&limit) - 960,
     );
     case(o, "limit", &limit, 3, need(&limit) - 1, 0, 6);
+    for lent in [need(&past), need(&past) - 1, 64, 0] {
+        case(o, "past", &past, 4, lent, 0, 6);
+    }
     vec![
         ("data/small.map".into(), small.bytes()),
         ("data/one.map".into(), one.bytes()),
         ("data/apart.map".into(), apart.bytes()),
         ("data/limit.map".into(), limit.bytes()),
+        ("data/past.map".into(), past.bytes()),
         ("stdout".into(), out.into_bytes()),
     ]
 }

@@ -2,7 +2,7 @@
 -- Assumes nothing.
 use mathlib.Core.Path.{sym, _∙_}
 use native.Mathlib.Omega.{arith}
-use Rattle.judge_vectors.proofs.Inside.{Inside, inside}
+use Rattle.packs.proofs.Inside.{Inside, inside}
 use borrow.Author.Needs.{needs}
 use Rattle.judge_vectors.proofs.judge_entry.Statement.{statement}
 use Rattle.judge_vectors.proofs.judge_entry.Tie as tie

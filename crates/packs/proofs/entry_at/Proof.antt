@@ -9,18 +9,18 @@ use lib.Dec.{leb, ltb}
 use borrow.Author.Needs.{needs}
 use borrow.Author.Tests.{le-leb, lt-leb, lt-ltb, le-ltb}
 use Rattle.maps.specs.Bytes.{field}
-use Rattle.judge_vectors.specs.declared.Entry.the-variants.{Map, Cut, End}
-use Rattle.judge_vectors.specs.Pack.{entryAt}
-use Rattle.judge_vectors.proofs.entry_at.Statement.{statement}
-use Rattle.judge_vectors.proofs.entry_at.Tie as tie
+use Rattle.packs.specs.declared.Entry.the-variants.{Item, Cut, End}
+use Rattle.packs.specs.Pack.{entryAt}
+use Rattle.packs.proofs.entry_at.Statement.{statement}
+use Rattle.packs.proofs.entry_at.Tie as tie
 
 -- the entry, where the length and the outcomes of the tests are known
 entry-by : (pack : List ℕ) (at : ℕ) {n : ℕ} {done short cut : Bool} → leb (length pack) at ≡ done → ltb (length pack - at) 4 ≡ short → n ≡ field pack at 4
-    → ltb (length pack - (at + 4)) n ≡ cut → cond done End (cond short Cut (cond cut Cut (Map (at + 4) (at + 4 + n)))) ≡ entryAt pack at
+    → ltb (length pack - (at + 4)) n ≡ cut → cond done End (cond short Cut (cond cut Cut (Item (at + 4) (at + 4 + n)))) ≡ entryAt pack at
 unfolding entryAt
 entry-by pack at {n} isDone isShort isN isCut =
-    (λ i. cond (sym isDone i) End (cond (sym isShort i) Cut (cond (sym isCut i) Cut (Map (at + 4) (at + 4 + n)))))
-    ∙ λ i. cond (leb (length pack) at) End (cond (ltb (length pack - at) 4) Cut (cond (ltb (length pack - (at + 4)) (isN i)) Cut (Map (at + 4) (at + 4 + isN i))))
+    (λ i. cond (sym isDone i) End (cond (sym isShort i) Cut (cond (sym isCut i) Cut (Item (at + 4) (at + 4 + n)))))
+    ∙ λ i. cond (leb (length pack) at) End (cond (ltb (length pack - at) 4) Cut (cond (ltb (length pack - (at + 4)) (isN i)) Cut (Item (at + 4) (at + 4 + isN i))))
 
 returns : tie.Need-returns
 returns c = entry-by _ _ (le-leb _ _ (c .if1 .taken)) refl refl refl

@@ -1,4 +1,4 @@
--- A map stands within its pack.
+-- An item stands within its pack.
 -- Assumes nothing.
 use mathlib.Core.Path.{_≡_, refl, sym, _∙_}
 use mathlib.Core.Bool.{Bool, true, false, cond}
@@ -9,15 +9,15 @@ use lib.ListN.{length}
 use lib.Dec.{leb, ltb}
 use borrow.Author.Tests.{leb-false, ltb-false}
 use Rattle.maps.specs.Bytes.{field}
-use Rattle.judge_vectors.specs.declared.Entry.the-variants.{Map, Cut, End}
-use Rattle.judge_vectors.specs.Pack.{entryAt}
+use Rattle.packs.specs.declared.Entry.the-variants.{Item, Cut, End}
+use Rattle.packs.specs.Pack.{entryAt}
 
 pub record Inside (pack : List ℕ) (at start end : ℕ) : Type 0 where
   pub after : at < end
   pub order : start ≤ end
   pub within : end ≤ length pack
 
-pub inside : (pack : List ℕ) (at start end : ℕ) → entryAt pack at ≡ Map start end → Inside pack at start end
+pub inside : (pack : List ℕ) (at start end : ℕ) → entryAt pack at ≡ Item start end → Inside pack at start end
 unfolding entryAt
 inside pack at start end e =
     by (leb (length pack) at) refl (ltb (length pack - at) 4) refl (ltb (length pack - (at + 4)) (field pack at 4)) refl e
@@ -26,7 +26,7 @@ inside pack at start end e =
     no z = absurd (omega arith)
 
     by : (done : Bool) → leb (length pack) at ≡ done → (short : Bool) → ltb (length pack - at) 4 ≡ short → (cut : Bool) → ltb (length pack - (at + 4)) (field pack at 4) ≡ cut
-        → cond done End (cond short Cut (cond cut Cut (Map (at + 4) (at + 4 + field pack at 4)))) ≡ Map start end → Inside pack at start end
+        → cond done End (cond short Cut (cond cut Cut (Item (at + 4) (at + 4 + field pack at 4)))) ≡ Item start end → Inside pack at start end
     by true d short s cut t k = let z : _≡_ {A = ℕ} 0 1 = cc in no z
     by false d true s cut t k = let z : _≡_ {A = ℕ} 0 1 = cc in no z
     by false d false s true t k = let z : _≡_ {A = ℕ} 0 1 = cc in no z

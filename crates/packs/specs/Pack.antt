@@ -5,12 +5,12 @@ use mathlib.Core.List.{List}
 use lib.ListN.{length}
 use lib.Dec.{leb, ltb}
 use Rattle.maps.specs.Bytes.{field}
-use Rattle.judge_vectors.specs.declared.Entry.{Entry}
-use Rattle.judge_vectors.specs.declared.Entry.the-variants.{Map, Cut, End}
+use Rattle.packs.specs.declared.Entry.{Entry}
+use Rattle.packs.specs.declared.Entry.the-variants.{Item, Cut, End}
 
 unfoldable pub entryAt : List ℕ → ℕ → Entry
 entryAt pack at =
     cond (leb (length pack) at) End
     (cond (ltb (length pack - at) 4) Cut
     (cond (ltb (length pack - (at + 4)) (field pack at 4)) Cut
-    (Map (at + 4) (at + 4 + field pack at 4))))
+    (Item (at + 4) (at + 4 + field pack at 4))))

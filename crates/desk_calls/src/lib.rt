@@ -1,0 +1,44 @@
+// What the desk program does with a call once it is read: each change makes its own call of the core, and gets its line.
+use answers::Reply;
+use desk_lines::Line;
+use fleet::Change;
+ghost use mathlib.Core.Path.{_≡_};
+ghost use Rattle.answers.specs.Answered.{answered};
+ghost use Rattle.calls.specs.Outcome.{Changed};
+ghost use Rattle.desk_lines.specs.Desk.{changeLine};
+
+pub fn make_change(memory: &mut [u32], change: Change) -> Reply
+    ensures { λ r. ⌜ Changed change (now (memory .entry)) (answered r) (now (memory .exit)) ⌝ }
+{
+    match change {
+        Change::Add {
+            van,
+            from,
+            to,
+            offset,
+        } => hailtrellis::add(memory, van, from, to, offset),
+        Change::Move {
+            van,
+            from,
+            to,
+            offset,
+        } => hailtrellis::move_van(memory, van, from, to, offset),
+        Change::Remove { van } => hailtrellis::remove(memory, van),
+        Change::Claim { van, stamp, desk } => hailtrellis::claim(memory, van, stamp, desk),
+        Change::Release { van, desk } => hailtrellis::release(memory, van, desk),
+    }
+}
+
+// The new stamp, or the refusal.
+pub fn change_line(place: u32, reply: Reply) -> Line
+    ensures { λ r. ⌜ r ≡ changeLine place (answered reply) ⌝ }
+{
+    let number = reply.number();
+    if number == 0 {
+        return Line::Ok {
+            place,
+            stamp: reply.value(),
+        };
+    }
+    Line::No { place, number }
+}

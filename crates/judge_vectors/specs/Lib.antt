@@ -1,2 +1,0 @@
--- The packs of maps.
-pub mod Pack

@@ -1,0 +1,2 @@
+-- Packs of items.
+pub mod Pack
