@@ -1,8 +1,9 @@
 // The desk program: reads a map, an opening record and calls from standard input, and writes what each gets. What the bytes and the
-// lines are is proved in `desk_lines`, what a change does and the line that it gets in `desk_calls`; this program only reads, calls and writes.
+// lines are is proved in `desk_lines`, what a change does and the lines that a call gets in `desk_calls`; this program only reads, calls and writes.
 use counts::Counts;
 use desk_calls::change_line;
 use desk_calls::make_change;
+use desk_calls::van_line;
 use desk_lines::Call;
 use desk_lines::Line;
 use desk_lines::Opening;
@@ -85,16 +86,7 @@ fn list(answer: &[u32; 96], out: &mut [u8], at: usize, place: u32, count: u32) -
     );
     for i in 0..32 {
         if i < count as usize {
-            end = emit(
-                out,
-                end,
-                Line::Van {
-                    place,
-                    number: answer[3 * i],
-                    distance: answer[3 * i + 1],
-                    stamp: answer[3 * i + 2],
-                },
-            );
+            end = emit(out, end, van_line(place, answer, i));
         }
     }
     end

@@ -1,11 +1,15 @@
-// What the desk program does with a call once it is read: each change makes its own call of the core, and gets its line.
+// What the desk program does with a call once it is read: each change makes its own call of the core and gets its line, and each van of a question's
+// list gets its line.
 use answers::Reply;
+use cells::word;
 use desk_lines::Line;
 use fleet::Change;
 ghost use mathlib.Core.Path.{_≡_};
+ghost use Prim.Native.Nat.{_<_};
 ghost use Rattle.answers.specs.Answered.{answered};
 ghost use Rattle.calls.specs.Outcome.{Changed};
-ghost use Rattle.desk_lines.specs.Desk.{changeLine};
+ghost use Rattle.desk_lines.specs.Desk.{changeLine, vanLine};
+ghost use Rattle.desk_calls.specs.Listed.{listedAt};
 
 pub fn make_change(memory: &mut [u32], change: Change) -> Reply
     ensures { λ r. ⌜ Changed change (now (memory .entry)) (answered r) (now (memory .exit)) ⌝ }
@@ -41,4 +45,17 @@ pub fn change_line(place: u32, reply: Reply) -> Line
         };
     }
     Line::No { place, number }
+}
+
+// The van at `i` of the list that the answer words show (proofs/Listed).
+pub fn van_line(place: u32, answer: &[u32], i: usize) -> Line
+    requires { ⌜ i < 32 ⌝ }
+    ensures { λ r. ⌜ r ≡ vanLine place (listedAt (now (answer .entry)) i) ⌝ }
+{
+    Line::Van {
+        place,
+        number: word(answer, 3 * i),
+        distance: word(answer, 3 * i + 1),
+        stamp: word(answer, 3 * i + 2),
+    }
 }

@@ -6,6 +6,7 @@ use cells::word;
 use counts::Counts;
 use desk_calls::change_line;
 use desk_calls::make_change;
+use desk_calls::van_line;
 use desk_lines::Call;
 use desk_lines::Line;
 use desk_lines::Opening;
@@ -94,12 +95,7 @@ fn list(answer: &[u32; 96], place: u32, count: u32) {
     });
     for i in 0..32 {
         if i < count as usize {
-            print(Line::Van {
-                place,
-                number: answer[3 * i],
-                distance: answer[3 * i + 1],
-                stamp: answer[3 * i + 2],
-            });
+            print(van_line(place, answer, i));
         }
     }
 }

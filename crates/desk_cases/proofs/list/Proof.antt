@@ -1,7 +1,6 @@
--- `list` stays within the answer words.
+-- `list` writes a line for each of at most 32 vans, and ends.
 -- Assumes nothing.
 use Prim.Native.Nat.{_-_, _≤_}
-use native.Mathlib.Omega.{arith}
 use borrow.Author.Needs.{needs}
 use Rattle.desk_cases.proofs.list.Statement.{statement}
 use Rattle.desk_cases.proofs.list.Tie as tie
@@ -18,38 +17,8 @@ print-requires c κs = search needs
 loop-holds : tie.Need-loop-holds Inv-loop μ-loop
 loop-holds c = search needs
 
-mul-t10 : tie.Need-mul-t10 Inv-loop μ-loop
-mul-t10 c = search needs
-
-mul-t11 : tie.Need-mul-t11 Inv-loop μ-loop
-mul-t11 c = search needs
-
-element-copy-out-t14 : tie.Need-element-copy-out-t14 Inv-loop μ-loop
-element-copy-out-t14 c = search needs
-
-mul-t15 : tie.Need-mul-t15 Inv-loop μ-loop
-mul-t15 c = search needs
-
-add-t16 : tie.Need-add-t16 Inv-loop μ-loop
-add-t16 c = search needs
-
-mul-t17 : tie.Need-mul-t17 Inv-loop μ-loop
-mul-t17 c = search needs
-
-element-copy-out-t20 : tie.Need-element-copy-out-t20 Inv-loop μ-loop
-element-copy-out-t20 c = search needs
-
-mul-t21 : tie.Need-mul-t21 Inv-loop μ-loop
-mul-t21 c = search needs
-
-add-t22 : tie.Need-add-t22 Inv-loop μ-loop
-add-t22 c = search needs
-
-mul-t23 : tie.Need-mul-t23 Inv-loop μ-loop
-mul-t23 c = search needs
-
-element-copy-out-t26 : tie.Need-element-copy-out-t26 Inv-loop μ-loop
-element-copy-out-t26 c = search needs
+van-line-requires : tie.Need-van-line-requires Inv-loop μ-loop
+van-line-requires c κs = search needs
 
 print-requires-2 : tie.Need-print-requires-2 Inv-loop μ-loop
 print-requires-2 c κs = search needs
@@ -74,17 +43,7 @@ list-spec =
     μ-loop
     print-requires
     loop-holds
-    mul-t10
-    mul-t11
-    element-copy-out-t14
-    mul-t15
-    add-t16
-    mul-t17
-    element-copy-out-t20
-    mul-t21
-    add-t22
-    mul-t23
-    element-copy-out-t26
+    van-line-requires
     print-requires-2
     add-i
     loop-less

@@ -1,0 +1,2 @@
+-- What answer words show of a question's list.
+pub mod Listed
