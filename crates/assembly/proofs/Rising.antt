@@ -13,7 +13,7 @@ use lib.Dec.{eqb}
 use borrow.Author.Tests.{eq-eqb, ne-eqb}
 use Rattle.words.specs.Lists.{word, placeIn}
 use Rattle.words.proofs.Lists.{place-in}
-use Rattle.words.proofs.Places.{place-of-entry}
+use Rattle.words.proofs.Places.{place-of-entry, numbered}
 use Rattle.roads.specs.Map.{Road, Map, partCount, roadCount, noRoad, roadAt}
 use Rattle.roads.specs.Dist.{dist}
 use Rattle.roads.proofs.Laws.{dist-most, dist-self}
@@ -35,7 +35,6 @@ use Rattle.assembly.proofs.Places.{table-from, tables-apart, table-to, 
 use Rattle.assembly.proofs.Lowering.{lower-none, lower-then, inside-lower}
 use Rattle.assembly.proofs.Trying.{tried-lower, tried-tight, tried-keeps}
 use Rattle.assembly.proofs.Below.{child-later, place-below}
-use Rattle.assembly.proofs.Range.{numbered}
 
 -- ---- a vertex and its row
 

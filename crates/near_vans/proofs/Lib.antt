@@ -1,0 +1,4 @@
+-- Laws that the functions cite.
+pub mod Exact
+pub mod Taking
+pub mod Meeting
