@@ -79,7 +79,7 @@ pub record Taken (i n : ℕ) (at labels vertices at′ labels′ vertices′ : L
 
 -- r says whether u waits at place p - 1
 pub record WaitsAt (p u n : ℕ) (vertices : List ℕ) (r : Bool) : Type 0 where
-  pub yes-it-does : r ≡ true → (i : ℕ) × (p ≡ suc i) × (i < n) × (word vertices i ≡ u)
+  pub yes-it-does : r ≡ true → (1 ≤ p) × (p ≤ n) × (word vertices (p - 1) ≡ u)
   pub no-it-does-not : r ≡ false → (i : ℕ) → p ≡ suc i → i < n → word vertices i ≢ u
 
 -- u was met at distance `far`
