@@ -2,16 +2,15 @@
 -- Assumes nothing.
 use mathlib.Core.Path.{_≡_, refl, sym, ap, subst, subst⁻¹, _∙_}
 use mathlib.Core.Logic.{_≢_}
-use mathlib.Core.Bool.{Bool, true, false}
+use mathlib.Core.Bool.{false}
 use mathlib.Core.List.{List}
-use Prim.Native.Nat.{ℕ, suc, _+_, _-_, _*_, _%_, _≤_, _<_, min}
+use Prim.Native.Nat.{ℕ, suc, _+_, _-_, _%_, _≤_, _<_, min}
 use native.Mathlib.Nat.{mod-eq-of-lt}
 use native.Mathlib.Decide.{ℕ-discrete}
 use native.Mathlib.Omega.{arith}
-use lib.ListN.{length, drop, length-drop}
+use lib.ListN.{drop, length-drop}
 use lib.Seq.{getD-drop}
 use borrow.Author.Tests.{eq-eqb, eqb-true}
-use Rattle.words.specs.Limits.{FAR}
 use Rattle.words.specs.Lists.{word, link}
 use Rattle.words.proofs.Places.{entry-in}
 use Rattle.roads.specs.Map.{Map, roadAt, roadCount, noRoad}
@@ -26,7 +25,6 @@ use Rattle.image.specs.Image.{endsAt}
 use Rattle.image.specs.Records.{roadRecord}
 use Rattle.places.specs.Place as place
 use Rattle.van_lists.proofs.Found.{Found, nothing, found, clash, link-in}
-use Rattle.van_offers.specs.Genuine.{Genuine}
 use Rattle.van_offers.proofs.Shown.{road-read}
 use Rattle.near_vans.specs.Around.{Reached, Around, Met, Opened, SameTaken}
 use Rattle.near_vans.proofs.Meeting.{further, After, met}

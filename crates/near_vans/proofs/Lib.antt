@@ -6,3 +6,4 @@ pub mod Meeting
 pub mod InRoads
 pub mod Offering
 pub mod Turns
+pub mod Calls

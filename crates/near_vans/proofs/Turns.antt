@@ -1,16 +1,15 @@
 -- How a search starts, what a turn of it keeps, and when its list is the answer.
 -- Assumes nothing.
-use mathlib.Core.Path.{_≡_, refl, sym, ap, subst, subst⁻¹, _∙_}
-use mathlib.Core.Logic.{_⊎_, inl, inr, ⊎-elim, _≢_}
-use mathlib.Core.Bool.{Bool, true, false}
-use mathlib.Core.List.{List, [], List·Memᴰ}
-use Prim.Native.Nat.{ℕ, zero, suc, _+_, _-_, _%_, _≤_, _<_}
+use mathlib.Core.Path.{_≡_, sym, ap, subst, subst⁻¹, _∙_}
+use mathlib.Core.Logic.{_⊎_, inl, inr, _≢_}
+use mathlib.Core.Bool.{true, false}
+use mathlib.Core.List.{List, []}
+use Prim.Native.Nat.{ℕ, suc, _+_, _-_, _%_, _≤_, _<_}
 use native.Mathlib.Nat.{mod-eq-of-lt}
 use native.Mathlib.Decide.{ℕ-discrete, decLt}
 use native.Mathlib.Omega.{arith}
 use lib.ListN.{length, set, take, length-set}
 use lib.Seq.{getD-set-same, getD-set-other, take-nil}
-use lib.Dec.{eqb}
 use borrow.Author.Tests.{eq-eqb, ne-eqb}
 use Rattle.words.specs.Limits.{FAR}
 use Rattle.words.specs.Lists.{word, keep}
@@ -35,7 +34,7 @@ use Rattle.van_offers.specs.Genuine.{Genuine}
 use Rattle.van_offers.proofs.Shown.{vertex-read}
 use Rattle.van_offers.proofs.Heading.{head-below}
 use Rattle.van_offers.proofs.Comers.{comers, Comer, comer-says, comer-near, comer-far}
-use Rattle.near_vans.specs.Around.{Reached, Around, vanHead, isOffered, Searching, Fresh, Started, Least, Taken, Opened, SameTaken, MetAll}
+use Rattle.near_vans.specs.Around.{Around, vanHead, isOffered, Searching, Fresh, Started, Least, Taken, Opened, SameTaken, MetAll}
 use Rattle.near_vans.proofs.Exact.{nearer-taken, least-exact}
 use Rattle.near_vans.proofs.Taking.{now-taken, not-taken, others-as-before, taken-around}
 use Rattle.near_vans.proofs.Offering.{offered-is, vertex-best}

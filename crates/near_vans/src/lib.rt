@@ -224,15 +224,24 @@ fn search(
     let mut turns = 0;
     while turns < MOST {
         if n == 0 {
-            return Near { best: best, done: true };
+            return Near {
+                best: best,
+                done: true,
+            };
         }
         let i = least(labels, n);
         let near = labels[i];
         if best.limit(k) < near {
-            return Near { best: best, done: true };
+            return Near {
+                best: best,
+                done: true,
+            };
         }
         if hopeless(turns, best.len, k) {
-            return Near { best: best, done: false };
+            return Near {
+                best: best,
+                done: false,
+            };
         }
         let v = take(i, n, at, labels, vertices);
         let link = vertex_word(mem, counts, v, 4);
@@ -242,11 +251,17 @@ fn search(
         let first = vertex_word(mem, counts, v, 3);
         n = meet_all(mem, counts, first, near, n - 1, at, labels, vertices);
         if ROOM < n {
-            return Near { best: best, done: false };
+            return Near {
+                best: best,
+                done: false,
+            };
         }
         turns += 1;
     }
-    Near { best: best, done: false }
+    Near {
+        best: best,
+        done: false,
+    }
 }
 
 // The first k of all free vans that can reach x, in order of distance and then van number, if `done` says so.

@@ -1,28 +1,26 @@
 -- The list of vans that starts at a vertex's link offers the free vans that head for the vertex, each once.
 -- Assumes nothing.
 use mathlib.Core.Path.{_≡_, refl, sym, ap, subst, subst⁻¹, _∙_}
-use mathlib.Core.Logic.{⊎-elim, _≢_}
-use mathlib.Core.Bool.{Bool, true, false, cond, _&&_, true≢false}
-use mathlib.Core.List.{List, [], _∷_, List·Memᴰ, List·Memᴰ·head, List·Memᴰ·tail, List·Memᴰ·not-nil, List·Memᴰ·cases-cons, Memᴰ·cast}
-use Prim.Native.Nat.{ℕ, zero, suc, _+_, _-_, _*_, _≤_, _<_, min}
-use native.Mathlib.Nat.{zero-add}
+use mathlib.Core.Logic.{⊎-elim}
+use mathlib.Core.Bool.{Bool, true, false, cond, true≢false}
+use mathlib.Core.List.{List, [], _∷_, List·Memᴰ, List·Memᴰ·head, List·Memᴰ·tail, List·Memᴰ·not-nil, List·Memᴰ·cases-cons}
+use Prim.Native.Nat.{ℕ, zero, suc, _+_, _≤_, _<_, min}
 use native.Mathlib.Decide.{decLt, ℕ-discrete}
 use native.Mathlib.Omega.{arith}
-use lib.ListN.{length, getD, drop, List·getD-eq-default}
+use lib.ListN.{length, drop, List·getD-eq-default}
 use lib.Seq.{drop-cons, drop-length}
-use lib.Dec.{eqb, ltb}
-use borrow.Author.Tests.{eqb-true, eq-eqb, ltb-true, lt-ltb}
+use lib.Dec.{eqb}
+use borrow.Author.Tests.{eqb-true, eq-eqb}
 use Rattle.words.specs.Limits.{FAR, vans}
 use Rattle.words.specs.Lists.{word, link}
 use Rattle.words.proofs.Tests.{both-true, both-pass}
 use Rattle.words.proofs.Places.{entry-in}
-use Rattle.roads.specs.Map.{Map, roadAt, roadCount, noRoad}
+use Rattle.roads.specs.Map.{Map, roadAt, noRoad}
 use Rattle.roads.specs.Dist.{dist}
-use Rattle.roads.proofs.Exact.{dist-exact}
-use Rattle.maps.proofs.Distances.{sound-net, sound-dist}
+use Rattle.maps.proofs.Distances.{sound-dist}
 use Rattle.fleet.specs.State.{Van, Slot, absent, present, State, slotOf, headOf, headsFor, distanceOf}
-use Rattle.fleet.specs.Good.{GoodVan, Good}
-use Rattle.fleet.specs.Question.{Listed, canCome}
+use Rattle.fleet.specs.Good.{GoodVan}
+use Rattle.fleet.specs.Question.{Listed}
 use Rattle.fleet.proofs.Sorted.{Distinct, none, more}
 use Rattle.fleet.proofs.Coming.{entry}
 use Rattle.image.specs.Image.{vertexRecord, vanRecord, nextVan}

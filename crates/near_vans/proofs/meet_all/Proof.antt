@@ -1,6 +1,6 @@
 -- `meet_all` follows the links: on the words of a map the roads into the vertex up to the link have been looked at.
 -- Assumes nothing.
-use mathlib.Core.Path.{_≡_, refl}
+use mathlib.Core.Path.{refl}
 use Prim.Native.Nat.{ℕ, _+_, _^_, _≤_, _<_}
 use native.Mathlib.Omega.{arith}
 use Rattle.roads.specs.Map.{Map}
