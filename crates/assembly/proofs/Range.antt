@@ -1,9 +1,9 @@
 -- The roads from one vertex stand side by side, from the number that its record shows to that of the next vertex.
 -- Assumes nothing.
-use mathlib.Core.Path.{_≡_, refl, sym, ap, _∙_, subst, subst⁻¹}
+use mathlib.Core.Path.{_≡_, refl, ap, _∙_, subst, subst⁻¹}
 use mathlib.Core.Logic.{_⊎_, inl, inr, ⊎-elim}
 use mathlib.Core.Bool.{Bool, true, false, cond}
-use mathlib.Core.List.{List, [], _∷_, List·Memᴰ, List·Memᴰ·head, List·Memᴰ·tail, List·Memᴰ·not-nil, List·Memᴰ·cases-cons}
+use mathlib.Core.List.{List, [], _∷_, List·Memᴰ, List·Memᴰ·head, List·Memᴰ·tail}
 use Prim.Native.Nat.{ℕ, zero, suc, _+_, _-_, _≤_, _<_}
 use native.Mathlib.Omega.{arith}
 use lib.ListN.{length, getD}
@@ -14,12 +14,6 @@ use Rattle.words.proofs.Places.{entry-in}
 use Rattle.roads.specs.Map.{Road, Map, roadCount, noRoad, roadAt}
 use Rattle.maps.specs.Sound.{Sound, RoadBefore}
 use Rattle.image.specs.Image.{firstRoadFrom}
-
--- an entry has a number
-pub numbered : {A : Type 0} (d : A) (xs : List A) (x : A) → List·Memᴰ x xs → (i : ℕ) × (i < length xs) × (getD xs i d ≡ x)
-numbered d [] x h = absurd (List·Memᴰ·not-nil h)
-numbered d (y ∷ ys) x h =
-    ⊎-elim (λ same. (0, omega arith, sym same)) (λ below. let n = numbered d ys x below in (suc (n .0), omega (arith, n .1), n .2)) (List·Memᴰ·cases-cons h)
 
 -- how many roads start below v
 starts : ℕ → List Road → ℕ

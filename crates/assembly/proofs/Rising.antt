@@ -12,7 +12,7 @@ use lib.ListN.{length, getD}
 use borrow.Author.Tests.{eq-eqb, ne-eqb}
 use Rattle.words.specs.Lists.{word, placeIn}
 use Rattle.words.proofs.Lists.{place-in}
-use Rattle.words.proofs.Places.{place-of-entry}
+use Rattle.words.proofs.Places.{place-of-entry, numbered}
 use Rattle.roads.specs.Map.{Road, Map, partCount, noRoad}
 use Rattle.roads.specs.Dist.{dist}
 use Rattle.roads.proofs.Laws.{dist-most, dist-self}
@@ -34,7 +34,6 @@ use Rattle.assembly.proofs.Places.{table-from, tables-apart, table-to, 
 use Rattle.assembly.proofs.Lowering.{lower-none, lower-then}
 use Rattle.assembly.proofs.Trying.{tried-lower, tried-tight, tried-keeps}
 use Rattle.assembly.proofs.Below.{child-later, place-below}
-use Rattle.assembly.proofs.Range.{numbered}
 
 -- ---- a vertex and its row
 

@@ -1,0 +1,2 @@
+-- What a search around the caller keeps.
+pub mod Around
