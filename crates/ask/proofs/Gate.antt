@@ -25,7 +25,8 @@ use Rattle.calls.proofs.Head.{used-word, vertices-word, shown-opened}
 use Rattle.calls.proofs.Screen.{screened-unopened, screened-range, screened-neither}
 use Rattle.best_list.specs.declared.BestList.{BestList}
 use Rattle.best_list.proofs.Pass.{length-entries}
-use Rattle.question.specs.Kept.{Genuine, listIn, written}
+use Rattle.van_offers.specs.Genuine.{Genuine, listIn}
+use Rattle.question.specs.Kept.{written}
 
 -- The ranges.
 

@@ -9,10 +9,11 @@ use places::road_at;
 use van_offers::offer_vans;
 use van_offers::vertex_word;
 ghost use mathlib.Core.Path.{_≡_};
-ghost use mathlib.Core.Bool.{true};
+ghost use mathlib.Core.Bool.{true, _&&_};
 ghost use mathlib.Core.List.{List};
 ghost use Prim.Native.Nat.{ℕ, suc, _+_, _-_, _*_, _%_, _≤_, _<_};
 ghost use lib.ListN.{length, set};
+ghost use lib.Dec.{eqb, ltb};
 ghost use Rattle.words.specs.Lists.{word};
 ghost use Rattle.roads.specs.Map.{Map};
 ghost use Rattle.fleet.specs.State.{State};
@@ -27,9 +28,9 @@ pub struct Near {
 }
 
 // At most so many vertices are taken; and after LOOK of them the list must have come on.
-const MOST: usize = 192;
+const MOST: usize = 384;
 
-const LOOK: usize = 32;
+const LOOK: usize = 64;
 
 // How many vertices can wait, and how many roads into a vertex are looked at.
 const ROOM: usize = 128;
@@ -198,9 +199,10 @@ fn meet_all(
 // A list of `found` vans after so many turns is not worth more of them.
 fn hopeless(turns: usize, found: usize, k: usize) -> bool
     requires { ⌜ found ≤ 32 ⌝ }
+    ensures { λ r. ⌜ r ≡ (eqb turns 64 && ltb (4 * found + 3) k) ⌝ }
 {
     if turns == LOOK {
-        return (found + 1) * 6 < k;
+        return 4 * found + 3 < k;
     }
     false
 }

@@ -24,7 +24,8 @@ use Rattle.far_sums.specs.Least.{Least}
 use Rattle.part_bounds.specs.Bounds.{partWord, rowsIn, lowered, Closer, Spread, outOf, keyAt, farCount}
 use Rattle.part_bounds.proofs.Spreading.{far-lowered, far-most}
 use Rattle.question.specs.declared.Search.{Search}
-use Rattle.question.specs.Kept.{Genuine, listIn, Relaxed, LeafTaken, OpenedUp, BoundOutside, Searching, Shrunk, GoesOn, Fresh}
+use Rattle.van_offers.specs.Genuine.{Genuine, listIn}
+use Rattle.question.specs.Kept.{Relaxed, LeafTaken, OpenedUp, BoundOutside, Searching, Shrunk, GoesOn, Fresh}
 use Rattle.question.proofs.Shown.{parent-read, child-read, leaf-read}
 use Rattle.question.proofs.Turns.{fewer, climbed, part-taken}
 use Rattle.question.proofs.Ends.{FirstLook, leaf-again, leaf-taken, stopped, limit-near, started}

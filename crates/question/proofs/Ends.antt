@@ -38,11 +38,13 @@ use Rattle.van_offers.specs.Offers.{leafOffers}
 use Rattle.far_sums.specs.Least.{Least}
 use Rattle.part_bounds.specs.Bounds.{partWord, rowsIn, lowered, keyAt}
 use Rattle.part_bounds.proofs.Lowering.{lowered-length, lowered-found}
-use Rattle.question.specs.Kept.{Genuine, Relaxed, BoundOutside, Coming, Covered, Waits, Searching, vanLeaf, isOffered}
+use Rattle.van_offers.specs.Genuine.{Genuine}
+use Rattle.van_offers.proofs.Heading.{head-below, head-active}
+use Rattle.van_offers.proofs.Comers.{comers, Comer, comer-says, comer-near, comer-far}
+use Rattle.question.specs.Kept.{Relaxed, BoundOutside, Coming, Covered, Waits, Searching, vanLeaf, isOffered}
 use Rattle.question.proofs.Shown.{active-shown}
 use Rattle.question.proofs.Exact.{still-honest, exact-out, known-out, exact-own, known-own}
-use Rattle.question.proofs.Heading.{head-below, head-active}
-use Rattle.question.proofs.Leaves.{comers, Comer, comer-says, comer-near, comer-leaf, leaf-best}
+use Rattle.question.proofs.Leaves.{comer-leaf, leaf-best}
 use Rattle.question.proofs.Turns.{fewer, still-waited, covered-without, bound-outside, closer-waits, holding-part}
 
 -- no mark is set: nothing was offered

@@ -31,7 +31,8 @@ use Rattle.rows.proofs.Bounds.{row-bound}
 use Rattle.fleet.specs.State.{State, active}
 use Rattle.image.specs.Records.{rowVertex}
 use Rattle.part_bounds.specs.Bounds.{partWord, rowsIn, ownerAt, belowAt, nearAt, isAsked, Apart, Closer}
-use Rattle.question.specs.Kept.{Genuine, Relaxed}
+use Rattle.van_offers.specs.Genuine.{Genuine}
+use Rattle.question.specs.Kept.{Relaxed}
 use Rattle.question.proofs.Shown.{rows-read, owner-read, entry-read, row-in, row-below, place-read, shown-arrives, arrives-further}
 
 module _ {m : Map} {s : State} {mem : List ℕ} (g : Genuine m s mem) (p : ℕ) (hp : p < partCount m) {all : Bool} {dx dx′ : List ℕ} (closer : Relaxed mem p all dx dx′) (x : ℕ) (hx : x < m .vertices) where

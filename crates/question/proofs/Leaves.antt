@@ -33,9 +33,11 @@ use Rattle.best_list.specs.Best.{offeredAll}
 use Rattle.best_list.proofs.Offers.{bestOf, offered-more}
 use Rattle.van_offers.specs.Offers.{vanOffers, rowOwner, vertexOffers, leafOffers}
 use Rattle.part_bounds.specs.Bounds.{partWord, rowsIn}
-use Rattle.question.specs.Kept.{Genuine, vanLeaf, isOffered}
+use Rattle.van_offers.specs.Genuine.{Genuine}
+use Rattle.van_offers.proofs.Heading.{offers-say, offers-have, offers-distinct, head-below, head-active, idle-link}
+use Rattle.van_offers.proofs.Comers.{comers, Comer, comer-says, comer-has, comer-near}
+use Rattle.question.specs.Kept.{vanLeaf, isOffered}
 use Rattle.question.proofs.Shown.{rows-read, owner-read, row-below, row-in, place-read}
-use Rattle.question.proofs.Heading.{Heads, offers-say, offers-have, offers-distinct, head-below, head-active, idle-link, comes-near}
 
 distinct-append : {a b : List Listed} → Distinct a → Distinct b → ((x y : Listed) → List·Memᴰ x a → List·Memᴰ y b → x .van ≢ y .van) → Distinct (a ++ b)
 distinct-append none db apart = db
@@ -51,49 +53,8 @@ module _ {m : Map} {s : State} {mem : List ℕ} (g : Genuine m s mem) (x : ℕ) 
   nothing-offered true near = refl
   nothing-offered false near = refl
 
-  abbrev pub comers : List Listed
-  comers = comingFrom m x 0 (s .vans)
-
-  -- the van of an entry of those that can come
-  pub record Comer (l : Listed) : Type 0 where
-    pub place : ℕ
-    pub van : Van
-    pub there : slotOf s place ≡ present van
-    pub free : van .holder ≡ 0
-    pub reaches : dist m (headOf m van) x < FAR
-    pub same : l ≡ entry m x place van
-
-  pub comer-says : (l : Listed) → List·Memᴰ l comers → Comer l
-  unfolding canCome
-  comer-says l h =
-      let c = coming-says m x 0 (s .vans) l h in
-      let both = both-true (eqb (c .van .holder) 0) _ (c .can) in
-      record {
-        place = c .place;
-        van = c .van;
-        there = c .there;
-        free = eqb-true (c .van .holder) 0 (both .0);
-        reaches = ltb-true (dist m (headOf m (c .van)) x) FAR (both .1);
-        same = c .same ∙ ap (λ (i : ℕ). entry m x i (c .van)) (zero-add (c .place));
-      }
-
-  pub comer-has : (l : Listed) → Comer l → List·Memᴰ l comers
-  unfolding canCome
-  comer-has l c =
-      coming-has m x 0 (s .vans) l
-      (record {
-        place = c .place;
-        van = c .van;
-        there = c .there;
-        can = both-pass (eqb (c .van .holder) 0) _ (eq-eqb (c .van .holder) 0 (c .free)) (lt-ltb (dist m (headOf m (c .van)) x) FAR (c .reaches));
-        same = c .same ∙ ap (λ (i : ℕ). entry m x i (c .van)) (sym (zero-add (c .place)));
-      })
-
-  pub comer-near : (l : Listed) → List·Memᴰ l comers → l .distance < FAR
-  comer-near l h = let c = comer-says l h in omega (arith, ap (λ (a : Listed). a .distance) (c .same), comes-near g x (c .place) (c .van) (c .there) (c .reaches))
-
   -- the leaf that it heads into
-  pub comer-leaf : (l : Listed) (c : Comer l) → vanLeaf m (slotOf s (l .van)) ≡ leafOf m (headOf m (c .van))
+  pub comer-leaf : (l : Listed) (c : Comer g x l) → vanLeaf m (slotOf s (l .van)) ≡ leafOf m (headOf m (c .van))
   comer-leaf l c = ap (λ (i : ℕ). vanLeaf m (slotOf s i)) (ap (λ (a : Listed). a .van) (c .same)) ∙ ap (vanLeaf m) (c .there)
 
   -- The offers of leaf q, whose active vertices have their distances.
@@ -110,7 +71,7 @@ module _ {m : Map} {s : State} {mem : List ℕ} (g : Genuine m s mem) (x : ℕ) 
       row : ℕ
       from : low ≤ row
       below : row < high
-      comer : Comer e
+      comer : Comer g x e
       heads : headOf m (comer .van) ≡ rowVertex m q row
 
     module _ (i : ℕ) (hi : i < sizeOf m q) where
@@ -172,7 +133,7 @@ module _ {m : Map} {s : State} {mem : List ℕ} (g : Genuine m s mem) (x : ℕ) 
           })
           cases
 
-      row-has : (e : Listed) (c : Comer e) → headOf m (c .van) ≡ v → List·Memᴰ e rowOffers
+      row-has : (e : Listed) (c : Comer g x e) → headOf m (c .van) ≡ v → List·Memᴰ e rowOffers
       unfolding v
       row-has e c heads =
           let reaches : dist m v x < FAR = omega (arith, c .reaches, ap (λ (k : ℕ). dist m k x) heads) in
@@ -196,7 +157,7 @@ module _ {m : Map} {s : State} {mem : List ℕ} (g : Genuine m s mem) (x : ℕ) 
         (λ later. let f = all-say n (suc i) (omega arith) e later in record { row = f .row; from = omega (arith, f .from); below = omega (arith, f .below); comer = f .comer; heads = f .heads })
         (List·Memᴰ·append-cases (rowOffers i (omega arith)) h)
 
-    all-have : (n i j : ℕ) → i + n ≤ sizeOf m q → i ≤ j → j < i + n → (e : Listed) (c : Comer e) → headOf m (c .van) ≡ rowVertex m q j → List·Memᴰ e (offersFrom n i)
+    all-have : (n i j : ℕ) → i + n ≤ sizeOf m q → i ≤ j → j < i + n → (e : Listed) (c : Comer g x e) → headOf m (c .van) ≡ rowVertex m q j → List·Memᴰ e (offersFrom n i)
     unfolding leafOffers rowOffers v
     all-have zero i j most low high e c heads = absurd (omega arith)
     all-have (suc n) i j most low high e c heads =
@@ -236,13 +197,13 @@ module _ {m : Map} {s : State} {mem : List ℕ} (g : Genuine m s mem) (x : ℕ) 
     within : rowsIn mem q ≡ sizeOf m q
     within = rows-read g q hq
 
-    leaf-says : (e : Listed) → List·Memᴰ e leafList → (c : Comer e) × (leafOf m (headOf m (c .van)) ≡ q)
+    leaf-says : (e : Listed) → List·Memᴰ e leafList → (c : Comer g x e) × (leafOf m (headOf m (c .van)) ≡ q)
     leaf-says e h =
         let f = all-say (rowsIn mem q) 0 (omega (arith, within)) e h in
         let here : List·Memᴰ (rowVertex m q (f .row)) (rowVertices m q) = row-in g q hq (f .row) (omega (arith, f .below, within)) in
         (f .comer, ap (leafOf m) (f .heads) ∙ vertices-says m q (rowVertex m q (f .row)) (subst (List·Memᴰ (rowVertex m q (f .row))) (rows-leaf m q leaf) here) .1)
 
-    leaf-has : (e : Listed) (c : Comer e) → leafOf m (headOf m (c .van)) ≡ q → List·Memᴰ e leafList
+    leaf-has : (e : Listed) (c : Comer g x e) → leafOf m (headOf m (c .van)) ≡ q → List·Memᴰ e leafList
     leaf-has e c own =
         let h : ℕ = headOf m (c .van) in
         let (i, hi, same) = place-read g q hq h (subst⁻¹ (List·Memᴰ h) (rows-leaf m q leaf) (vertices-has m q h (head-below g (c .place) (c .van) (c .there)) own)) in
@@ -256,31 +217,31 @@ module _ {m : Map} {s : State} {mem : List ℕ} (g : Genuine m s mem) (x : ℕ) 
       kept : (p : ℕ) → p ≢ q → word (set marks q 1) p ≡ word marks p
       kept p other = getD-set-other marks q p 1 0 other
 
-      mark-is : (l : Listed) (c : Comer l) (marks′ : List ℕ) → isOffered m s marks′ l ≡ eqb (word marks′ (leafOf m (headOf m (c .van)))) 1
+      mark-is : (l : Listed) (c : Comer g x l) (marks′ : List ℕ) → isOffered m s marks′ l ≡ eqb (word marks′ (leafOf m (headOf m (c .van)))) 1
       unfolding isOffered
       mark-is l c marks′ = ap (λ (p : ℕ). eqb (word marks′ p) 1) (comer-leaf l c)
 
-      pub leaf-best : offeredAll k (take k (sorted (keep (isOffered m s marks) comers))) leafList ≡ take k (sorted (keep (isOffered m s (set marks q 1)) comers))
+      pub leaf-best : offeredAll k (take k (sorted (keep (isOffered m s marks) (comers g x)))) leafList ≡ take k (sorted (keep (isOffered m s (set marks q 1)) (comers g x)))
       leaf-best =
-          offered-more k some comers (coming-distinct m x 0 (s .vans)) comer-near (isOffered m s marks) (isOffered m s (set marks q 1)) leafList
+          offered-more k some (comers g x) (coming-distinct m x 0 (s .vans)) (comer-near g x) (isOffered m s marks) (isOffered m s (set marks q 1)) leafList
           (all-distinct (rowsIn mem q) 0 (omega (arith, within)))
           (λ e h.
           let told = leaf-says e h in
-          (comer-has e (told .0), mark-is e (told .0) marks ∙ ap (λ (p : ℕ). eqb (word marks p) 1) (told .1) ∙ ne-eqb (word marks q) 1 fresh))
-          (λ l h e. says l (comer-says l h) e)
-          (λ l h e. has l (comer-says l h) e)
+          (comer-has g x e (told .0), mark-is e (told .0) marks ∙ ap (λ (p : ℕ). eqb (word marks p) 1) (told .1) ∙ ne-eqb (word marks q) 1 fresh))
+          (λ l h e. says l (comer-says g x l h) e)
+          (λ l h e. has l (comer-says g x l h) e)
         where
-          says : (l : Listed) (c : Comer l) → isOffered m s (set marks q 1) l ≡ true → (isOffered m s marks l ≡ true) ⊎ List·Memᴰ l leafList
+          says : (l : Listed) (c : Comer g x l) → isOffered m s (set marks q 1) l ≡ true → (isOffered m s marks l ≡ true) ⊎ List·Memᴰ l leafList
           says l c e =
               elim (ℕ-discrete (leafOf m (headOf m (c .van))) q) [
                 | yes own ↦ inr (leaf-has l c own)
                 | no other ↦ inl (mark-is l c marks ∙ ap (λ (w : ℕ). eqb w 1) (sym (kept (leafOf m (headOf m (c .van))) other)) ∙ sym (mark-is l c (set marks q 1)) ∙ e)
               ]
 
-          own-marked : (l : Listed) (c : Comer l) → leafOf m (headOf m (c .van)) ≡ q → isOffered m s (set marks q 1) l ≡ true
+          own-marked : (l : Listed) (c : Comer g x l) → leafOf m (headOf m (c .van)) ≡ q → isOffered m s (set marks q 1) l ≡ true
           own-marked l c own = mark-is l c (set marks q 1) ∙ ap (λ (p : ℕ). eqb (word (set marks q 1) p) 1) own ∙ eq-eqb (word (set marks q 1) q) 1 marked
 
-          has : (l : Listed) (c : Comer l) → (isOffered m s marks l ≡ true) ⊎ List·Memᴰ l leafList → isOffered m s (set marks q 1) l ≡ true
+          has : (l : Listed) (c : Comer g x l) → (isOffered m s marks l ≡ true) ⊎ List·Memᴰ l leafList → isOffered m s (set marks q 1) l ≡ true
           has l c (inr h) = let told = leaf-says l h in own-marked l (told .0) (told .1)
           has l c (inl e) =
               elim (ℕ-discrete (leafOf m (headOf m (c .van))) q) [

@@ -1,7 +1,6 @@
 -- Laws that the functions cite.
 pub mod Shown
 pub mod Exact
-pub mod Heading
 pub mod Leaves
 pub mod Turns
 pub mod Ends

@@ -37,7 +37,8 @@ use Rattle.image.proofs.Words.{row-word}
 use Rattle.image.proofs.Records.{head-word, part-word, vertex-word, table-word, shown-word, vertices-start, roads-start, vans-start}
 use Rattle.places.specs.Place.{countsIn, vertexAt, vanAt}
 use Rattle.part_bounds.specs.Bounds.{partWord, rowsIn, ownerAt, childAt, belowAt}
-use Rattle.question.specs.Kept.{Genuine}
+use Rattle.van_offers.specs.Genuine.{Genuine}
+use Rattle.van_offers.proofs.Shown.{at-word, slots, vertex-read}
 
 -- what shows a distance of itself is active
 shows-active : (isActive : ℕ → Bool) (v : ℕ) → itself isActive v .distance < FAR → isActive v ≡ true
@@ -61,46 +62,17 @@ row-arrives m isActive q b near = by (row-is m isActive q b) near
     by (shows u comes least) near = (u, comes)
 
 module _ {m : Map} {s : State} {mem : List ℕ} (g : Genuine m s mem) where
-  pub at-word : (i : ℕ) → word mem i ≡ word (image m s) i
-  at-word i = ap (λ (l : List ℕ). word l i) (g .is)
-
-  pub slots : length (s .vans) ≡ vans
-  slots = g .good .slots
-
-  -- The head.
-
-  pub vertices-read : word mem 2 ≡ m .vertices
-  unfolding headPart
-  vertices-read = at-word 2 ∙ head-word m s slots 2 (omega arith)
-
-  parts-read : word mem 4 ≡ partCount m
-  unfolding headPart
-  parts-read = at-word 4 ∙ head-word m s slots 4 (omega arith)
-
-  roads-read : word mem 3 ≡ length (m .roads)
-  unfolding headPart
-  roads-read = at-word 3 ∙ head-word m s slots 3 (omega arith)
-
-  pub vertex-place : (v : ℕ) → vertexAt (countsIn mem) v ≡ verticesAt m + 8 * v
-  vertex-place v = omega (arith, parts-read, vertices-start m)
-
-  pub van-place : (v : ℕ) → vanAt (countsIn mem) v ≡ vansAt m + 8 * v
-  van-place v = omega (arith, parts-read, vertices-read, roads-read, roads-start m, vans-start m)
-
   -- The vertices.
-
-  pub vertex-read : (v w : ℕ) → v < m .vertices → w < 8 → word mem (vertexAt (countsIn mem) v + w) ≡ word (vertexRecord m s v) w
-  vertex-read v w hv hw = ap (λ (k : ℕ). word mem (k + w)) (vertex-place v) ∙ at-word (verticesAt m + 8 * v + w) ∙ vertex-word m s slots v w hv hw
 
   pub leaf-read : (v : ℕ) → v < m .vertices → word mem (vertexAt (countsIn mem) v + 0) ≡ leafOf m v
   unfolding vertexRecord
-  leaf-read v hv = vertex-read v 0 hv (omega arith)
+  leaf-read v hv = vertex-read g v 0 hv (omega arith)
 
   -- The parts.
 
   module _ (p : ℕ) (hp : p < partCount m) where
     part-read : (w : ℕ) → w < 8 → partWord mem p w ≡ word (partRecord m p) w
-    part-read w hw = at-word (64 + 8 * p + w) ∙ part-word m s slots p w hp hw
+    part-read w hw = at-word g (64 + 8 * p + w) ∙ part-word m s (slots g) p w hp hw
 
     pub parent-read : partWord mem p 0 ≡ parentOf m p
     unfolding partRecord
@@ -147,7 +119,7 @@ module _ {m : Map} {s : State} {mem : List ℕ} (g : Genuine m s mem) where
         → word mem (partWord mem p 2 + 4 * i + w)
         ≡ word (rowRecord (rowOf m (active m s) p (rowVertex m p i)) (rowVertex m p i) (partBelow m p (rowVertex m p i)) (rowBelow m p (rowVertex m p i))) w
     shown i w hi hw =
-        ap (λ (k : ℕ). word mem (k + 4 * i + w)) first-read ∙ at-word (firstRowOf m p + 4 * i + w) ∙ shown-word m s slots p i w hp hi hw
+        ap (λ (k : ℕ). word mem (k + 4 * i + w)) first-read ∙ at-word g (firstRowOf m p + 4 * i + w) ∙ shown-word m s (slots g) p i w hp hi hw
 
     small : (i : ℕ) → i < sizeOf m p → rowVertex m p i < 65536
     small i hi = omega (arith, row-below i hi, g .sound .vertices)
@@ -160,7 +132,7 @@ module _ {m : Map} {s : State} {mem : List ℕ} (g : Genuine m s mem) where
 
     pub entry-read : (i j : ℕ) → i < sizeOf m p → j < sizeOf m p → word mem (partWord mem p 3 + rowsIn mem p * i + j) ≡ dist m (rowVertex m p i) (rowVertex m p j)
     entry-read i j hi hj =
-        ap (word mem) at ∙ at-word (tableOf m p + (sizeOf m p * i + j)) ∙ table-word m s slots p i j hp hi hj
+        ap (word mem) at ∙ at-word g (tableOf m p + (sizeOf m p * i + j)) ∙ table-word m s (slots g) p i j hp hi hj
       where
         at : partWord mem p 3 + rowsIn mem p * i + j ≡ tableOf m p + (sizeOf m p * i + j)
         at = omega (arith, table-read, ap (λ (k : ℕ). k * i) rows-read)
@@ -201,8 +173,8 @@ module _ {m : Map} {s : State} {mem : List ℕ} (g : Genuine m s mem) where
           let below : word mem (partWord mem p 2 + 4 * i + 3) ≡ rowAt m c (rowVertex m p i) =
           shown i 3 hi (omega arith) ∙ ap (λ (b : Bool). cond b (itselfAt m (rowVertex m p i)) (rowAt m c (rowVertex m p i))) inner in
           ap (λ (k : ℕ). word mem (k + 1)) below
-          ∙ at-word (rowAt m c (rowVertex m p i) + 1)
-          ∙ row-word m s slots c (children-says m p c (child .0) .0) (rowVertex m p i)
+          ∙ at-word g (rowAt m c (rowVertex m p i) + 1)
+          ∙ row-word m s (slots g) c (children-says m p c (child .0) .0) (rowVertex m p i)
           (border-row m (sound-net m (g .sound)) (sound-tree m (g .sound)) p (rowVertex m p i) c (border-in i hi) (child .0) (child .1)) 1 (omega arith) .1
 
   -- What a row shows further down.
@@ -214,7 +186,7 @@ module _ {m : Map} {s : State} {mem : List ℕ} (g : Genuine m s mem) where
       let v : ℕ = rowVertex m p i in
       let below : word mem (partWord mem p 2 + 4 * i + 3) ≡ itselfAt m v = shown p hp i 3 hi (omega arith) ∙ ap (λ (b : Bool). cond b (itselfAt m v) (rowAt m (childOf m p v) v)) leaf in
       let at : word mem (partWord mem p 2 + 4 * i + 3) + 1 ≡ verticesAt m + 8 * v + 6 = omega (arith, below) in
-      ap (word mem) at ∙ at-word (verticesAt m + 8 * v + 6) ∙ vertex-word m s slots v 6 (row-below p hp i hi) (omega arith)
+      ap (word mem) at ∙ at-word g (verticesAt m + 8 * v + 6) ∙ vertex-word m s (slots g) v 6 (row-below p hp i hi) (omega arith)
 
   -- which an active vertex shows
   pub active-shown : (p : ℕ) (hp : p < partCount m) → isLeaf m p ≡ true → (r : ℕ) → active m s r ≡ true

@@ -32,7 +32,8 @@ use Rattle.image.specs.Records.{rowVertex}
 use Rattle.far_sums.specs.Least.{Least}
 use Rattle.part_bounds.specs.Bounds.{partWord, rowsIn, ownerAt, childAt, belowAt, nearAt, keyOf, outOf, lowered, Spread}
 use Rattle.part_bounds.proofs.Lowering.{lowered-no-more, lowered-here, lowered-found, lowered-length}
-use Rattle.question.specs.Kept.{Genuine, Relaxed, OpenedUp, BoundOutside, Coming, Covered, Waits, Searching, isOffered}
+use Rattle.van_offers.specs.Genuine.{Genuine}
+use Rattle.question.specs.Kept.{Relaxed, OpenedUp, BoundOutside, Coming, Covered, Waits, Searching, isOffered}
 use Rattle.question.proofs.Shown.{parent-read, rows-read, owner-read, child-at-read, below-read, place-read, row-in, child-of-border}
 use Rattle.question.proofs.Exact.{still-honest, exact-out, known-out, exact-in, known-in}
 

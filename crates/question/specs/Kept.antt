@@ -13,29 +13,17 @@ use Rattle.roads.specs.Map.{Map, partCount}
 use Rattle.roads.specs.Dist.{dist}
 use Rattle.parts.specs.Tree.{leafOf, holds}
 use Rattle.parts.specs.Border.{boundary}
-use Rattle.maps.specs.Sound.{Sound}
 use Rattle.rows.specs.Row.{rowOf}
 use Rattle.fleet.specs.State.{Slot, absent, present, State, slotOf, headOf, active}
-use Rattle.fleet.specs.Good.{Good}
 use Rattle.fleet.specs.Question.{Listed, listedWords, comingFrom, sorted, nearest}
-use Rattle.image.specs.Image.{image}
 use Rattle.places.specs.Place.{countsIn}
 use Rattle.best_list.specs.declared.BestList.{BestList}
-use Rattle.best_list.specs.Best.{entries, offeredAll}
-use Rattle.van_offers.specs.Offers.{stampIn, leafOffers}
+use Rattle.best_list.specs.Best.{offeredAll}
+use Rattle.van_offers.specs.Offers.{leafOffers}
+use Rattle.van_offers.specs.Genuine.{Genuine, listIn}
 use Rattle.far_sums.specs.Least.{Least}
 use Rattle.part_bounds.specs.Bounds.{partWord, rowsIn, Closer, Spread, outOf, farCount}
 use Rattle.question.specs.declared.Search.{Search}
-
--- words that an opening of m and changes that led to s left behind
-pub record Genuine (m : Map) (s : State) (mem : List ℕ) : Type 0 where
-  pub sound : Sound m
-  pub good : Good m s
-  pub is : mem ≡ image m s
-
--- the entries of the best, with the stamps that the memory shows
-abbrev pub listIn : List ℕ → BestList → List Listed
-listIn mem best = entries (stampIn mem (countsIn mem)) (best .fars) (best .vans) (best .len)
 
 -- The functions of the search, on any words.
 

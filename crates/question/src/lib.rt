@@ -1,9 +1,10 @@
-// The k nearest free vans to a vertex: best first over the parts, with bounds read from the rows.
+// The k nearest free vans to a vertex: around the vertex where they are near, else best first over the parts, with bounds read from the rows.
 use best_list::BestList;
 use cells::put;
 use cells::wide;
 use cells::word;
 use far_sums::FAR;
+use near_vans::near_vans;
 use part_bounds::lower;
 use part_bounds::nearest_waiting;
 use part_bounds::part_word;
@@ -26,7 +27,8 @@ ghost use Rattle.roads.specs.Map.{Map};
 ghost use Rattle.fleet.specs.State.{State};
 ghost use Rattle.fleet.specs.Question.{nearest};
 ghost use Rattle.part_bounds.specs.Bounds.{farCount};
-ghost use Rattle.question.specs.Kept.{Genuine, listIn, LeafTaken, OpenedUp, BoundOutside, Searching, Shrunk, GoesOn, Fresh, written};
+ghost use Rattle.van_offers.specs.Genuine.{Genuine, listIn};
+ghost use Rattle.question.specs.Kept.{LeafTaken, OpenedUp, BoundOutside, Searching, Shrunk, GoesOn, Fresh, written};
 
 // A search between two turns: the best so far, the part climbed to, the bound of what lies outside it, and how many parts wait.
 pub struct Search {
@@ -266,6 +268,18 @@ fn search_at(
 
 // The first k of all free vans that can reach x, in order of distance and then van number.
 pub fn nearest_vans(mem: &[u32], x: u32, k: usize) -> BestList
+    requires { ⌜ (1 ≤ k) × (k ≤ 32) ⌝ }
+    ensures { λ r. ⌜ (r .len ≤ k) × ((m : Map) (fleet : State) → Genuine m fleet (now (mem .entry)) → x < m .vertices → listIn (now (mem .entry)) r ≡ nearest m fleet x k) ⌝ }
+{
+    let near = near_vans(mem, x, k);
+    if near.done {
+        return near.best;
+    }
+    over_parts(mem, x, k)
+}
+
+// The same, by a search over the parts.
+fn over_parts(mem: &[u32], x: u32, k: usize) -> BestList
     requires { ⌜ (1 ≤ k) × (k ≤ 32) ⌝ }
     ensures { λ r. ⌜ (r .len ≤ k) × ((m : Map) (fleet : State) → Genuine m fleet (now (mem .entry)) → x < m .vertices → listIn (now (mem .entry)) r ≡ nearest m fleet x k) ⌝ }
 {

@@ -12,13 +12,14 @@ use lib.Seq.{drop-cons, drop-length}
 use lib.Dec.{eqb}
 use borrow.Author.Tests.{eqb-true, eq-eqb}
 use Rattle.words.specs.Limits.{FAR, vans}
-use Rattle.words.specs.Lists.{word, link}
-use Rattle.words.proofs.Tests.{both-true, both-pass}
+use Rattle.words.specs.Lists.{word, link, any}
+use Rattle.words.proofs.Tests.{both-true, both-pass, neither-true}
+use Rattle.words.proofs.Lists.{any-by}
 use Rattle.words.proofs.Places.{entry-in}
 use Rattle.roads.specs.Map.{Map, roadAt, noRoad}
 use Rattle.roads.specs.Dist.{dist}
 use Rattle.maps.proofs.Distances.{sound-dist}
-use Rattle.fleet.specs.State.{Van, Slot, absent, present, State, slotOf, headOf, headsFor, distanceOf}
+use Rattle.fleet.specs.State.{Van, Slot, absent, present, State, slotOf, headOf, headsFor, active, distanceOf}
 use Rattle.fleet.specs.Good.{GoodVan}
 use Rattle.fleet.specs.Question.{Listed}
 use Rattle.fleet.proofs.Sorted.{Distinct, none, more}
@@ -42,6 +43,11 @@ heads-says m v (present van) e =
 pub heads-if : (m : Map) (van : Van) → van .holder ≡ 0 → headsFor m (headOf m van) (present van) ≡ true
 unfolding headsFor
 heads-if m van free = both-pass (eqb (van .holder) 0) _ (eq-eqb (van .holder) 0 free) (eq-eqb (headOf m van) (headOf m van) refl)
+
+-- where no entry passes a test there is no link
+no-link-in : {A : Type 0} (test : A → Bool) (i : ℕ) (xs : List A) → any test xs ≡ false → link test i xs ≡ 0
+no-link-in test i [] nobody = refl
+no-link-in test i (x ∷ xs) nobody = let both = neither-true (test x) _ nobody in rw (both .0) (no-link-in test (suc i) xs (both .1))
 
 module _ {m : Map} {s : State} {mem : List ℕ} (g : Genuine m s mem) where
   -- the words of a free van
@@ -81,6 +87,18 @@ module _ {m : Map} {s : State} {mem : List ℕ} (g : Genuine m s mem) where
   -- the vertex that a van heads for
   pub head-below : (i : ℕ) (van : Van) → slotOf s i ≡ present van → headOf m van < m .vertices
   head-below i van there = g .sound .road (roadAt m (van .road)) (entry-in (m .roads) (van .road) noRoad (good-van i van there .road)) .to-exists
+
+  -- which is active, where the van is free
+  pub head-active : (i : ℕ) (van : Van) → slotOf s i ≡ present van → van .holder ≡ 0 → active m s (headOf m van) ≡ true
+  unfolding active
+  head-active i van there free =
+      any-by (headsFor m (headOf m van)) (s .vans) (slotOf s i) (entry-in (s .vans) i absent (omega (arith, van-below i van there, slots g)))
+      (ap (headsFor m (headOf m van)) there ∙ heads-if m van free)
+
+  -- nobody heads for a vertex that is not active
+  pub idle-link : (v : ℕ) → v < m .vertices → active m s v ≡ false → word mem (vertexAt (countsIn mem) v + 4) ≡ 0
+  unfolding active vertexRecord
+  idle-link v hv idle = vertex-read g v 4 hv (omega arith) ∙ no-link-in (headsFor m v) 0 (s .vans) idle
 
   -- a van that reaches x is at less than FAR
   pub comes-near : (x i : ℕ) (van : Van) → slotOf s i ≡ present van → dist m (headOf m van) x < FAR → distanceOf m van x < FAR

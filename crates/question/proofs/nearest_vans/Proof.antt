@@ -1,35 +1,14 @@
--- `nearest_vans` searches with arrays of its own.
+-- `nearest_vans` searches around x, and over the parts where that does not settle it.
 -- Assumes nothing.
-use Rattle.question.proofs.Calls.{fresh-arrays}
 use borrow.Author.Needs.{needs}
 use Rattle.question.proofs.nearest_vans.Statement.{statement}
 use Rattle.question.proofs.nearest_vans.Tie as tie
 
-slice-aggregate-search-at : tie.Need-slice-aggregate-search-at
-slice-aggregate-search-at c = search needs
-
-slice-aggregate-search-at-2 : tie.Need-slice-aggregate-search-at-2
-slice-aggregate-search-at-2 c = search needs
-
-slice-aggregate-search-at-3 : tie.Need-slice-aggregate-search-at-3
-slice-aggregate-search-at-3 c = search needs
-
-slice-aggregate-search-at-4 : tie.Need-slice-aggregate-search-at-4
-slice-aggregate-search-at-4 c = search needs
-
-search-at-requires : tie.Need-search-at-requires
-search-at-requires c κs = (c .before .before .before .before .before .pre .0, c .before .before .before .before .before .pre .1, fresh-arrays)
-
 returns : tie.Need-returns
-returns c = c .before .before .before .before .search-at .ensures
+returns c = (c .before .near-vans .ensures .0, λ m fleet g hx. c .before .near-vans .ensures .1 m fleet g hx (c .if1 .taken))
+
+returns-2 : tie.Need-returns-2
+returns-2 c = c .over-parts .ensures
 
 pub nearest-vans-spec : {M : Type 1} → statement M
-nearest-vans-spec =
-    tie.close
-    (tie.spec
-    slice-aggregate-search-at
-    slice-aggregate-search-at-2
-    slice-aggregate-search-at-3
-    slice-aggregate-search-at-4
-    search-at-requires
-    returns)
+nearest-vans-spec = tie.close (tie.spec (search needs) returns (search needs) returns-2)

@@ -9,7 +9,8 @@ use borrow.Author.Tests.{not-true, not-false}
 use Rattle.roads.specs.Map.{Map}
 use Rattle.fleet.specs.State.{State}
 use Rattle.part_bounds.specs.Bounds.{farCount}
-use Rattle.question.specs.Kept.{Genuine, GoesOn}
+use Rattle.van_offers.specs.Genuine.{Genuine}
+use Rattle.question.specs.Kept.{GoesOn}
 use Rattle.question.proofs.Calls.{leftOf, less-left, on-and-on}
 use borrow.Author.Needs.{needs}
 use Rattle.question.proofs.search_on.Statement.{statement}
