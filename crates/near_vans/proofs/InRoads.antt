@@ -11,6 +11,7 @@ use native.Mathlib.Omega.{arith}
 use lib.ListN.{drop, length-drop}
 use lib.Seq.{getD-drop}
 use borrow.Author.Tests.{eq-eqb, eqb-true}
+use Rattle.words.proofs.Tests.{clash}
 use Rattle.words.specs.Lists.{word, link}
 use Rattle.words.proofs.Places.{entry-in}
 use Rattle.roads.specs.Map.{Map, roadAt, roadCount, noRoad}
@@ -24,7 +25,7 @@ use Rattle.fleet.specs.State.{State}
 use Rattle.image.specs.Image.{endsAt}
 use Rattle.image.specs.Records.{roadRecord}
 use Rattle.places.specs.Place as place
-use Rattle.van_lists.proofs.Found.{Found, nothing, found, clash, link-in}
+use Rattle.van_lists.proofs.Found.{Found, nothing, found, link-in}
 use Rattle.van_offers.proofs.Shown.{road-read}
 use Rattle.near_vans.specs.Around.{Reached, Around, Met, Opened, SameTaken}
 use Rattle.near_vans.proofs.Meeting.{further, After, met}

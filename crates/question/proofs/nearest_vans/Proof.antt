@@ -5,7 +5,7 @@ use Rattle.question.proofs.nearest_vans.Statement.{statement}
 use Rattle.question.proofs.nearest_vans.Tie as tie
 
 returns : tie.Need-returns
-returns c = (c .before .near-vans .ensures .0, λ m fleet g hx. c .before .near-vans .ensures .1 m fleet g hx (c .if1 .taken))
+returns c = (c .before .before .near-vans .ensures .0, λ m fleet g hx. c .before .before .near-vans .ensures .1 m fleet g hx (c .before .if1 .taken))
 
 returns-2 : tie.Need-returns-2
 returns-2 c = c .over-parts .ensures
