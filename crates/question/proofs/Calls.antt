@@ -10,6 +10,7 @@ use native.Mathlib.Omega.{arith}
 use lib.ListN.{length, set, replicate, length-set, length-replicate, getD-replicate}
 use Rattle.words.specs.Limits.{FAR}
 use Rattle.words.specs.Lists.{word}
+use Rattle.words.proofs.Lists.{all-same}
 use Rattle.roads.specs.Map.{Map}
 use Rattle.parts.specs.Tree.{isLeaf}
 use Rattle.parts.proofs.Gates.{no-first-child, some-first-child}
@@ -241,11 +242,6 @@ unfolding entries
 nothing stampOf fars vans zero e = refl
 nothing stampOf fars vans (suc n) e = absurd (omega arith)
 
-zeros : (n i : ℕ) → word (replicate n 0) i ≡ 0
-zeros zero i = refl
-zeros (suc n) zero = refl
-zeros (suc n) (suc i) = zeros n i
-
 -- The start.
 pub record Begun (k : ℕ) (keys waits : List ℕ) (best : BestList) : Type 0 where
   pub few : best .len ≤ k
@@ -293,6 +289,6 @@ fresh-arrays =
       keys-length = length-replicate {A = ℕ} 512 FAR;
       no-key = λ q h. getD-replicate 512 q FAR 0 h;
       marks-length = length-replicate {A = ℕ} 512 0;
-      no-mark = λ q. zeros 512 q;
+      no-mark = λ q. all-same 512 q 0;
       waits-length = length-replicate {A = ℕ} 512 0;
     }

@@ -25,8 +25,7 @@ use Rattle.parts.specs.Border.{boundary}
 use Rattle.parts.specs.Size.{rowVertices}
 use Rattle.parts.proofs.Rows.{row-vertex}
 use Rattle.parts.proofs.Way.{in-own-leaf}
-use Rattle.parts.proofs.Down.{Tree}
-use Rattle.parts.proofs.Gates.{boundary-row, leaf-of-held}
+use Rattle.parts.proofs.Down.{Tree, holding-part, leaf-of-held, boundary-row}
 use Rattle.maps.proofs.Distances.{sound-net, sound-tree}
 use Rattle.fleet.specs.State.{Van, absent, State, slotOf, headOf, headsFor, active, distanceOf}
 use Rattle.fleet.specs.Question.{Listed, comingFrom, sorted, nearest}
@@ -45,7 +44,7 @@ use Rattle.question.specs.Kept.{Relaxed, BoundOutside, Coming, Covered, 
 use Rattle.question.proofs.Shown.{active-shown}
 use Rattle.question.proofs.Exact.{still-honest, exact-out, known-out, exact-own, known-own}
 use Rattle.question.proofs.Leaves.{comer-leaf, leaf-best}
-use Rattle.question.proofs.Turns.{fewer, still-waited, covered-without, bound-outside, closer-waits, holding-part}
+use Rattle.question.proofs.Turns.{fewer, still-waited, covered-without, bound-outside, closer-waits}
 
 -- no mark is set: nothing was offered
 not-offered : (m : Map) (s : State) (marks : List ℕ) → ((q : ℕ) → word marks q ≡ 0) → (l : Listed) → isOffered m s marks l ≡ false

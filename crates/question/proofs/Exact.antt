@@ -23,8 +23,8 @@ use Rattle.parts.specs.Border.{boundary, borders}
 use Rattle.parts.specs.Size.{rowVertices, sizeOf}
 use Rattle.parts.proofs.Cross.{enters-through, leaves-through}
 use Rattle.parts.proofs.Rows.{row-vertex, rows-unique}
-use Rattle.parts.proofs.Down.{Tree, borders-says, vertices-has}
-use Rattle.parts.proofs.Gates.{rows-leaf, rows-inner, row-held, boundary-row, boundary-border}
+use Rattle.parts.proofs.Down.{Tree, boundary-row, borders-says, vertices-has}
+use Rattle.parts.proofs.Gates.{rows-leaf, rows-inner, row-held, boundary-border}
 use Rattle.maps.proofs.Distances.{sound-net, sound-tree}
 use Rattle.rows.specs.Row.{rowOf, Arrives}
 use Rattle.rows.proofs.Bounds.{row-bound}

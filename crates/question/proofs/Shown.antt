@@ -22,10 +22,10 @@ use Rattle.parts.specs.Tree.{parentOf, leafOf, holds, children, childOf, isLeaf
 use Rattle.parts.specs.Border.{borders}
 use Rattle.parts.specs.Size.{rowVertices, sizeOf}
 use Rattle.parts.proofs.Rows.{row-vertex}
-use Rattle.parts.proofs.Down.{Tree, borders-child, boundary-inside, children-says, border-row, child-found}
-use Rattle.parts.proofs.Gates.{rows-leaf, rows-inner, row-held, child-held}
+use Rattle.parts.proofs.Down.{Tree, child-held, borders-child, boundary-inside, children-says, border-row, child-found}
+use Rattle.parts.proofs.Gates.{rows-inner, row-held}
 use Rattle.maps.specs.Sound.{Sound}
-use Rattle.maps.proofs.Distances.{sound-net, sound-tree, sound-dist}
+use Rattle.maps.proofs.Distances.{sound-net, sound-tree, sound-dist, few-rows}
 use Rattle.rows.specs.declared.Row.{Row}
 use Rattle.rows.specs.Row.{emptyRow, itself, rowOf, Arrives, IsRow, empty, shows}
 use Rattle.rows.proofs.Least.{row-is}
@@ -94,17 +94,8 @@ module _ {m : Map} {s : State} {mem : List ℕ} (g : Genuine m s mem) where
     unfolding partRecord
     child-read = part-read 4 (omega arith)
 
-    -- no part has more than 128 rows
-    few-rows : sizeOf m p ≤ 128
-    unfolding sizeOf
-    few-rows =
-        ⊎-elim
-        (λ leaf. omega (arith, ap length (rows-leaf m p leaf), g .sound .part p hp .leaf leaf))
-        (λ inner. omega (arith, ap length (rows-inner m p inner), g .sound .part p hp .borders inner))
-        (true-or-false (isLeaf m p))
-
     pub rows-read : rowsIn mem p ≡ sizeOf m p
-    rows-read = omega (arith, size-read, few-rows)
+    rows-read = omega (arith, size-read, few-rows m (g .sound) p hp)
 
     -- The rows.
 

@@ -20,9 +20,9 @@ use Rattle.roads.proofs.Laws.{dist-most}
 use Rattle.parts.specs.Tree.{parentOf, leafOf, inPart, holds, children, childOf, isLeaf}
 use Rattle.parts.specs.Border.{boundary, borders}
 use Rattle.parts.specs.Size.{rowVertices, sizeOf}
-use Rattle.parts.proofs.Tree.{Above, here, up, Falls, above-least, in-part-if, holds-says, holds-if, holds-above}
-use Rattle.parts.proofs.Down.{Tree, boundary-inside, children-says, children-has, leaf-childless, child-found, borders-child}
-use Rattle.parts.proofs.Gates.{rows-inner, row-held, boundary-row, boundary-border, child-holding, child-held, children-apart, leaf-of-held}
+use Rattle.parts.proofs.Tree.{holds-says}
+use Rattle.parts.proofs.Down.{Tree, boundary-inside, children-says, children-has, child-inner, child-found, root-holds, child-holding, child-held, children-apart, boundary-row}
+use Rattle.parts.proofs.Gates.{rows-inner, boundary-border}
 use Rattle.maps.proofs.Distances.{sound-net, sound-tree}
 use Rattle.rows.specs.Row.{rowOf}
 use Rattle.rows.proofs.Bounds.{KeyGate, key-gate, OutGate, out-gate}
@@ -73,25 +73,6 @@ pub covered-lower : (m : Map) (marks waits : List ℕ) (n low high v : ℕ) → 
 covered-lower m marks waits n low high v h (inl marked) = inl marked
 covered-lower m marks waits n low high v h (inr (t, ht, from, inside)) = inr (t, ht, omega (arith, from, h), inside)
 
--- every vertex stands in the root
-root-above : (m : Map) → Falls m → (n p : ℕ) → p < n → p < partCount m → Above m 0 p
-root-above m falls zero p fuel hp = absurd (omega arith)
-root-above m falls (suc n) p fuel hp =
-    elim (ℕ-discrete p 0) [
-      | yes root ↦ subst⁻¹ (λ (k : ℕ). Above m 0 k) root here
-      | no real ↦ up real (root-above m falls n (parentOf m p) (omega (arith, falls p (omega (arith, real)) hp)) (omega (arith, falls p (omega (arith, real)) hp)))
-    ]
-
-pub root-holds : (m : Map) → Tree m → (v : ℕ) → v < m .vertices → holds m 0 v ≡ true
-root-holds m tree v hv =
-    holds-if m 0 v hv (in-part-if m (tree .falls) 0 (leafOf m v) (tree .leaf-part v hv) (root-above m (tree .falls) (suc (leafOf m v)) (leafOf m v) (omega arith) (tree .leaf-part v hv)))
-
--- what holds a vertex is a part
-pub holding-part : (m : Map) → Tree m → (q v : ℕ) → holds m q v ≡ true → q < partCount m
-holding-part m tree q v h =
-    let hv = holds-says m q v h .0 in
-    omega (arith, tree .leaf-part v hv, above-least m (tree .falls) (leafOf m v) (tree .leaf-part v hv) (holds-above m (tree .falls) v (tree .leaf-part v hv) q h))
-
 -- row i lies in the child
 out-here : (mem : List ℕ) (first : ℕ) (dx : List ℕ) (c i : ℕ) → childAt mem first i ≡ c → outOf mem first dx c i ≡ nearAt mem first dx i
 unfolding outOf
@@ -103,10 +84,6 @@ module _ {m : Map} {s : State} {mem : List ℕ} (g : Genuine m s mem) (x : ℕ) 
 
   tree : Tree m
   tree = sound-tree m (g .sound)
-
-  -- a part with a child is no leaf
-  has-child : (p c : ℕ) → List·Memᴰ c (children m p) → isLeaf m p ≡ false
-  has-child p c hc = ⊎-elim (λ leaf. absurd (leaf-childless m p c leaf hc)) (λ inner. inner) (true-or-false (isLeaf m p))
 
   -- The bound of what lies outside a part that holds x.
   pub bound-outside : (c : ℕ) → c < partCount m → {dx : List ℕ} {out : ℕ} → BoundOutside mem c dx out → holds m c x ≡ true → ((b : ℕ) → boundary m c b ≡ true → word dx b ≤ dist m b x)
@@ -122,7 +99,7 @@ module _ {m : Map} {s : State} {mem : List ℕ} (g : Genuine m s mem) (x : ℕ) 
           let child : List·Memᴰ c (children m p) = children-has m p c hc refl real in
           let falls = g .sound .part c hc .parent (omega (arith, real)) in
           let hp : p < partCount m = omega (arith, falls, hc) in
-          let inner = has-child p c child in
+          let inner = child-inner m p c child in
           let border = boundary-border m net tree p c b child (gate .is-boundary) in
           let (i, hi, same) = place-read g p hp b (subst⁻¹ (List·Memᴰ b) (rows-inner m p inner) border) in
           let hb : b < m .vertices = holds-says m c b (boundary-inside m c b (gate .is-boundary)) .0 in
@@ -316,7 +293,7 @@ module _ {m : Map} {s : State} {mem : List ℕ} (g : Genuine m s mem) (x : ℕ) 
       child = children-has m above part (st .is-part) (sym is-above) real
 
       inner : isLeaf m above ≡ false
-      inner = has-child above part child
+      inner = child-inner m above part child
 
       less-above : (u : ℕ) → word dx′ u ≤ word dx u
       less-above = opened .0 .no-more

@@ -8,11 +8,8 @@ use Rattle.ask.proofs.in_range.Tie as tie
 returns : tie.Need-returns
 returns c = vertex-out (c .before .args .vertices) (c .before .args .vertex) (c .before .args .k) (c .if1 .taken)
 
-is-within-requires : tie.Need-is-within-requires
-is-within-requires c κs = search needs
-
 returns-2 : tie.Need-returns-2
 returns-2 c = vertex-in (c .before .before .args .vertices) (c .before .before .args .vertex) (c .before .before .args .k) _ (c .before .if1 .left) (c .is-within .ensures)
 
 pub in-range-spec : {M : Type 1} → statement M
-in-range-spec = tie.close (tie.spec returns is-within-requires returns-2)
+in-range-spec = tie.close (tie.spec returns (search needs) returns-2)

@@ -16,35 +16,14 @@ use borrow.Author.Needs.{needs}
 use Rattle.ask.proofs.question.Statement.{statement}
 use Rattle.ask.proofs.question.Tie as tie
 
-opened-head-requires : tie.Need-opened-head-requires
-opened-head-requires c κs = search needs
-
 returns : tie.Need-returns
 returns c = asked-unopened _ _ _ _ (sym (c .before .opened-head .ensures) ∙ not-true _ (c .if1 .taken))
-
-word-requires : tie.Need-word-requires
-word-requires c κs = search needs
-
-in-range-requires : tie.Need-in-range-requires
-in-range-requires c κs = search needs
 
 returns-2 : tie.Need-returns-2
 returns-2 c = asked-range _ _ _ _ (sym (c .before .before .before .before .opened-head .ensures) ∙ not-false _ (c .before .before .before .if1 .left)) (sym (ap (λ (n : ℕ). questionInRange n (c .before .before .before .before .before .before .before .args .vertex) (c .before .before .before .before .before .before .before .args .k)) (c .before .before .word .ensures)) ∙ sym (c .before .in-range .ensures) ∙ not-true _ (c .if2 .taken))
 
-wide-requires : tie.Need-wide-requires
-wide-requires c κs = search needs
-
-mul-if3 : tie.Need-mul-if3
-mul-if3 c = search needs
-
 returns-3 : tie.Need-returns-3
 returns-3 c = asked-small _ _ _ _ (sym (c .before .before .before .before .before .before .opened-head .ensures) ∙ not-false _ (c .before .before .before .before .before .if1 .left)) (sym (ap (λ (n : ℕ). questionInRange n (c .before .before .before .before .before .before .before .before .before .args .vertex) (c .before .before .before .before .before .before .before .before .before .args .k)) (c .before .before .before .before .word .ensures)) ∙ sym (c .before .before .before .in-range .ensures) ∙ not-false _ (c .before .before .if2 .left)) (omega (arith, c .if3 .taken, c .before .wide .ensures))
-
-word-requires-2 : tie.Need-word-requires-2
-word-requires-2 c κs = search needs
-
-wide-requires-2 : tie.Need-wide-requires-2
-wide-requires-2 c κs = search needs
 
 slice-aggregate-inside : tie.Need-slice-aggregate-inside
 slice-aggregate-inside c = sym (length-take-le _ (c .before .before .before .before .before .before .before .before .before .before .before .before .args .mem .now) (omega (arith, opened-fits (c .before .before .before .before .before .before .before .before .before .before .before .before .args .mem .now) (sym (c .before .before .before .before .before .before .before .before .before .opened-head .ensures) ∙ not-false _ (c .before .before .before .before .before .before .before .before .if1 .left)), (c .before .wide2 .ensures ∙ c .before .before .word2 .ensures))))
@@ -64,9 +43,6 @@ cast-t12 c =
     let few = asked-few (c .before .before .before .before .before .before .before .before .before .before .before .before .word .result) (c .before .before .before .before .before .before .before .before .before .before .before .before .before .before .before .before .before .args .vertex) (c .before .before .before .before .before .before .before .before .before .before .before .before .before .before .before .before .before .args .k) (sym (c .before .before .before .before .before .before .before .before .before .before .before .in-range .ensures) ∙ not-false _ (c .before .before .before .before .before .before .before .before .before .before .if2 .left)) in
     record { fits = omega (arith, few, c .before .before .before .before .before .before .before .before .before .wide .ensures, c .before .before .before .before .nearest-vans .ensures .0) }
 
-same-length : tie.Need-same-length
-same-length c = search needs
-
 returns-4 : tie.Need-returns-4
 returns-4 c =
     let f : length (c .before .before .before .before .nearest-vans .result .fars) ≡ 32 = search needs in
@@ -77,19 +53,19 @@ pub question-spec : {M : Type 1} → statement M
 question-spec =
     tie.close
     (tie.spec
-    opened-head-requires
+    (search needs)
     returns
-    word-requires
-    in-range-requires
+    (search needs)
+    (search needs)
     returns-2
-    wide-requires
-    mul-if3
+    (search needs)
+    (search needs)
     returns-3
-    word-requires-2
-    wide-requires-2
+    (search needs)
+    (search needs)
     slice-aggregate-inside
     nearest-vans-requires
     write-list-requires
     cast-t12
-    same-length
+    (search needs)
     returns-4)

@@ -15,29 +15,11 @@ Inv-loop answer out₀ at place count end₀ i₀ out end i = (end ≤ length ou
 abbrev μ-loop : tie.MeasureT-loop
 μ-loop answer out₀ at place count end₀ i₀ out end i = 32 - i
 
-emit-requires : tie.Need-emit-requires Inv-loop μ-loop
-emit-requires c κs = search needs
-
 loop-holds : tie.Need-loop-holds Inv-loop μ-loop
 loop-holds c = (omega (arith, c .before .before .emit .kept .0), refl)
 
-van-line-requires : tie.Need-van-line-requires Inv-loop μ-loop
-van-line-requires c κs = search needs
-
-emit-requires-2 : tie.Need-emit-requires-2 Inv-loop μ-loop
-emit-requires-2 c κs = search needs
-
-add-i : tie.Need-add-i Inv-loop μ-loop
-add-i c = search needs
-
-loop-less : tie.Need-loop-less Inv-loop μ-loop
-loop-less c = search needs
-
 loop-again : tie.Need-loop-again Inv-loop μ-loop
 loop-again c = ⊎-elim (λ w. search needs) (λ w. search needs) (c .if1 .came)
-
-same-length : tie.Need-same-length Inv-loop μ-loop
-same-length c = search needs
 
 returns : tie.Need-returns Inv-loop μ-loop
 returns c = search needs
@@ -48,12 +30,12 @@ list-spec =
     (tie.spec
     Inv-loop
     μ-loop
-    emit-requires
+    (search needs)
     loop-holds
-    van-line-requires
-    emit-requires-2
-    add-i
-    loop-less
+    (search needs)
+    (search needs)
+    (search needs)
+    (search needs)
     loop-again
-    same-length
+    (search needs)
     returns)

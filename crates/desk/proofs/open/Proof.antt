@@ -13,9 +13,6 @@ use Rattle.desk.proofs.open.Tie as tie
 slice-aggregate-open : tie.Need-slice-aggregate-open
 slice-aggregate-open c = sym (length-take-le _ _ (omega arith))
 
-add-calls : tie.Need-add-calls
-add-calls c = search needs
-
 calls-requires : tie.Need-calls-requires
 calls-requires c κs =
     let a = c .before .before .before .before .before .before .before .before .before .before .before .before .before .before .before .args in
@@ -26,4 +23,4 @@ calls-requires c κs =
 pub open-spec : {M : Type 1} → statement M
 open-spec =
     tie.close
-    (tie.spec (λ c. search needs) (λ c. search needs) (λ c. search needs) (λ c κs. search needs) (λ c. search needs) (λ c. search needs) (λ c κs. search needs) (λ c. search needs) (λ c. search needs) slice-aggregate-open (λ c. search needs) (λ c κs. search needs) (λ c κs. search needs) (λ c κs. search needs) (λ c. search needs) (λ c. search needs) add-calls calls-requires (λ c. search needs) (λ c. search needs) (λ c. search needs) (λ c. search needs))
+    (tie.spec (λ c. search needs) (λ c. search needs) (λ c. search needs) (λ c κs. search needs) (λ c. search needs) (λ c. search needs) (λ c κs. search needs) (λ c. search needs) (λ c. search needs) slice-aggregate-open (λ c. search needs) (λ c κs. search needs) (λ c κs. search needs) (λ c κs. search needs) (λ c. search needs) (λ c. search needs) (search needs) calls-requires (λ c. search needs) (λ c. search needs) (λ c. search needs) (λ c. search needs))

@@ -5,12 +5,6 @@ use borrow.Author.Needs.{needs}
 use Rattle.desk_calls.proofs.change_line.Statement.{statement}
 use Rattle.desk_calls.proofs.change_line.Tie as tie
 
-number-requires : tie.Need-number-requires
-number-requires c κs = search needs
-
-value-requires : tie.Need-value-requires
-value-requires c κs = search needs
-
 returns : tie.Need-returns
 returns c = line-accepted _ (c .before .before .before .args .reply) (c .before .before .number .ensures) (c .value .ensures) (c .before .if1 .taken)
 
@@ -18,4 +12,4 @@ returns-2 : tie.Need-returns-2
 returns-2 c = line-refused _ (c .before .before .args .reply) (c .before .number .ensures) (c .if1 .left)
 
 pub change-line-spec : {M : Type 1} → statement M
-change-line-spec = tie.close (tie.spec number-requires value-requires returns returns-2)
+change-line-spec = tie.close (tie.spec (search needs) (search needs) returns returns-2)

@@ -12,23 +12,8 @@ Inv-loop memory₀ input rows at₀ place₀ memory at place = (at ≤ length in
 abbrev μ-loop : tie.MeasureT-loop
 μ-loop memory₀ input rows at₀ place₀ memory at place = 1000002 - place
 
-loop-holds : tie.Need-loop-holds Inv-loop μ-loop
-loop-holds c = search needs
-
-turn-requires : tie.Need-turn-requires Inv-loop μ-loop
-turn-requires c κs = search needs
-
 returns : tie.Need-returns Inv-loop μ-loop
 returns c = search needs
-
-add-place : tie.Need-add-place Inv-loop μ-loop
-add-place c = search needs
-
-loop-less : tie.Need-loop-less Inv-loop μ-loop
-loop-less c = search needs
-
-loop-again : tie.Need-loop-again Inv-loop μ-loop
-loop-again c = search needs
 
 returns-2 : tie.Need-returns-2 Inv-loop μ-loop
 returns-2 c = search needs
@@ -39,10 +24,10 @@ calls-spec =
     (tie.spec
     Inv-loop
     μ-loop
-    loop-holds
-    turn-requires
+    (search needs)
+    (search needs)
     returns
-    add-place
-    loop-less
-    loop-again
+    (search needs)
+    (search needs)
+    (search needs)
     returns-2)

@@ -11,27 +11,6 @@ Inv-loop answer place count i₀ i = i ≤ 32
 abbrev μ-loop : tie.MeasureT-loop
 μ-loop answer place count i₀ i = 32 - i
 
-print-requires : tie.Need-print-requires Inv-loop μ-loop
-print-requires c κs = search needs
-
-loop-holds : tie.Need-loop-holds Inv-loop μ-loop
-loop-holds c = search needs
-
-van-line-requires : tie.Need-van-line-requires Inv-loop μ-loop
-van-line-requires c κs = search needs
-
-print-requires-2 : tie.Need-print-requires-2 Inv-loop μ-loop
-print-requires-2 c κs = search needs
-
-add-i : tie.Need-add-i Inv-loop μ-loop
-add-i c = search needs
-
-loop-less : tie.Need-loop-less Inv-loop μ-loop
-loop-less c = search needs
-
-loop-again : tie.Need-loop-again Inv-loop μ-loop
-loop-again c = search needs
-
 returns : tie.Need-returns Inv-loop μ-loop
 returns c = search needs
 
@@ -41,11 +20,11 @@ list-spec =
     (tie.spec
     Inv-loop
     μ-loop
-    print-requires
-    loop-holds
-    van-line-requires
-    print-requires-2
-    add-i
-    loop-less
-    loop-again
+    (search needs)
+    (search needs)
+    (search needs)
+    (search needs)
+    (search needs)
+    (search needs)
+    (search needs)
     returns)

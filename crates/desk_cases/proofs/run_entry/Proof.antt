@@ -7,12 +7,6 @@ use borrow.Author.Needs.{needs}
 use Rattle.desk_cases.proofs.run_entry.Statement.{statement}
 use Rattle.desk_cases.proofs.run_entry.Tie as tie
 
-entry-at-requires : tie.Need-entry-at-requires
-entry-at-requires c κs = search needs
-
-enum-known-entry : tie.Need-enum-known-entry
-enum-known-entry c = search needs
-
 sub-start : tie.Need-sub-start
 sub-start c = inside _ _ _ _ (sym (c .before .before .before .entry-at .ensures) ∙ c .before .entry .given .1) .order
 
@@ -22,17 +16,8 @@ part-start-start c = let i = inside _ _ _ _ (sym (c .before .before .before .ent
 part-start-end : tie.Need-part-start-end
 part-start-end c = let i = inside _ _ _ _ (sym (c .before .before .before .entry-at .ensures) ∙ c .before .entry .given .1) in omega arith
 
-start-requires : tie.Need-start-requires
-start-requires c κs = search needs
-
 returns : tie.Need-returns
 returns c = let i = inside _ _ _ _ (sym (c .before .before .before .before .before .entry-at .ensures) ∙ c .before .before .before .entry .given .1) in (i .after, i .within)
-
-slice-aggregate-write-all : tie.Need-slice-aggregate-write-all
-slice-aggregate-write-all c = search needs
-
-write-all-requires : tie.Need-write-all-requires
-write-all-requires c κs = search needs
 
 returns-2 : tie.Need-returns-2
 returns-2 c = search needs
@@ -41,13 +26,13 @@ pub run-entry-spec : {M : Type 1} → statement M
 run-entry-spec =
     tie.close
     (tie.spec
-    entry-at-requires
-    enum-known-entry
+    (search needs)
+    (search needs)
     sub-start
     part-start-start
     part-start-end
-    start-requires
+    (search needs)
     returns
-    slice-aggregate-write-all
-    write-all-requires
+    (search needs)
+    (search needs)
     returns-2)

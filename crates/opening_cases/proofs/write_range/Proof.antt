@@ -12,29 +12,8 @@ Inv-loop words from to i₀ i = from ≤ i
 abbrev μ-loop : tie.MeasureT-loop
 μ-loop words from to i₀ i = to - i
 
-loop-holds : tie.Need-loop-holds Inv-loop μ-loop
-loop-holds c = omega arith
-
-mul-write-number : tie.Need-mul-write-number Inv-loop μ-loop
-mul-write-number c = search needs
-
-shared-slice-read-write-number : tie.Need-shared-slice-read-write-number Inv-loop μ-loop
-shared-slice-read-write-number c = omega arith
-
 cast-write-number : tie.Need-cast-write-number Inv-loop μ-loop
 cast-write-number c = omega (arith, c .shared-slice-known2 .given (c .before .before .before .loop .i))
-
-write-number-requires : tie.Need-write-number-requires Inv-loop μ-loop
-write-number-requires c κs = search needs
-
-add-i : tie.Need-add-i Inv-loop μ-loop
-add-i c = omega arith
-
-loop-less : tie.Need-loop-less Inv-loop μ-loop
-loop-less c = omega arith
-
-loop-again : tie.Need-loop-again Inv-loop μ-loop
-loop-again c = omega arith
 
 returns : tie.Need-returns Inv-loop μ-loop
 returns c = search needs
@@ -45,12 +24,12 @@ write-range-spec =
     (tie.spec
     Inv-loop
     μ-loop
-    loop-holds
-    mul-write-number
-    shared-slice-read-write-number
+    (search needs)
+    (search needs)
+    (search needs)
     cast-write-number
-    write-number-requires
-    add-i
-    loop-less
-    loop-again
+    (search needs)
+    (search needs)
+    (search needs)
+    (search needs)
     returns)

@@ -25,29 +25,11 @@ entry-by pack at {n} isDone isShort isN isCut =
 returns : tie.Need-returns
 returns c = entry-by _ _ (le-leb _ _ (c .if1 .taken)) refl refl refl
 
-sub-if2 : tie.Need-sub-if2
-sub-if2 c = search needs
-
 returns-2 : tie.Need-returns-2
 returns-2 c = entry-by _ _ (lt-leb _ _ (c .before .if1 .left)) (lt-ltb _ _ (c .if2 .taken)) refl refl
 
-add-start : tie.Need-add-start
-add-start c = search needs
-
-number4-requires : tie.Need-number4-requires
-number4-requires c κs = search needs
-
-cast-len : tie.Need-cast-len
-cast-len c = search needs
-
-sub-if3 : tie.Need-sub-if3
-sub-if3 c = search needs
-
 returns-3 : tie.Need-returns-3
 returns-3 c = entry-by _ _ (lt-leb _ _ (c .before .before .before .if1 .left)) (le-ltb _ _ (c .before .before .if2 .left)) (c .before .number4 .ensures) (lt-ltb _ _ (c .if3 .taken))
-
-add-t7 : tie.Need-add-t7
-add-t7 c = search needs
 
 returns-4 : tie.Need-returns-4
 returns-4 c = entry-by _ _ (lt-leb _ _ (c .before .before .before .if1 .left)) (le-ltb _ _ (c .before .before .if2 .left)) (c .before .number4 .ensures) (le-ltb _ _ (c .if3 .left))
@@ -57,12 +39,12 @@ entry-at-spec =
     tie.close
     (tie.spec
     returns
-    sub-if2
+    (search needs)
     returns-2
-    add-start
-    number4-requires
-    cast-len
-    sub-if3
+    (search needs)
+    (search needs)
+    (search needs)
+    (search needs)
     returns-3
-    add-t7
+    (search needs)
     returns-4)

@@ -22,15 +22,6 @@ abbrev μ-loop : tie.MeasureT-loop
 loop-holds : tie.Need-loop-holds Inv-loop μ-loop
 loop-holds c = (omega arith, gathered-none (c .before .before .before .before .pre .3) (c .before .before .before .before .pre .4))
 
-row-word-requires : tie.Need-row-word-requires Inv-loop μ-loop
-row-word-requires c κs = search needs
-
-wide-requires : tie.Need-wide-requires Inv-loop μ-loop
-wide-requires c κs = search needs
-
-word-requires : tie.Need-word-requires Inv-loop μ-loop
-word-requires c κs = search needs
-
 mul-held : tie.Need-mul-held Inv-loop μ-loop
 mul-held c = omega (arith, table-row (c .before .before .before .before .before .before .before .before .before .args .size) (c .before .before .before .before .loop .i) (c .before .before .before .before .before .before .before .before .before .pre .2) (c .before .before .before .loop-test .taken))
 
@@ -39,24 +30,6 @@ add-held c = omega (arith, table-row (c .before .before .before .before .before 
 
 held-requires : tie.Need-held-requires Inv-loop μ-loop
 held-requires c κs = held-asks _ _ (c .before .before .before .before .before .before .before .before .before .before .before .args .table) (c .before .before .before .before .before .before .before .before .before .before .before .args .size) (c .before .before .before .before .before .before .loop .i) (c .before .before .before .before .before .before .before .before .before .before .before .pre .1) (c .before .before .before .before .before .before .before .before .before .before .before .pre .2) (c .before .before .before .before .before .loop-test .taken) (c .before .before .before .before .before .before .loop .inv .1)
-
-cast-put : tie.Need-cast-put Inv-loop μ-loop
-cast-put c = search needs
-
-put-requires : tie.Need-put-requires Inv-loop μ-loop
-put-requires c κs = search needs
-
-put-requires-2 : tie.Need-put-requires-2 Inv-loop μ-loop
-put-requires-2 c κs = search needs
-
-add-count : tie.Need-add-count Inv-loop μ-loop
-add-count c = search needs
-
-add-i : tie.Need-add-i Inv-loop μ-loop
-add-i c = search needs
-
-loop-less : tie.Need-loop-less Inv-loop μ-loop
-loop-less c = search needs
 
 loop-again : tie.Need-loop-again Inv-loop μ-loop
 loop-again c =
@@ -87,18 +60,18 @@ gather-spec =
     Inv-loop
     μ-loop
     loop-holds
-    row-word-requires
-    wide-requires
-    word-requires
+    (search needs)
+    (search needs)
+    (search needs)
     mul-held
     add-held
     held-requires
-    cast-put
-    put-requires
-    put-requires-2
-    add-count
-    add-i
-    loop-less
+    (search needs)
+    (search needs)
+    (search needs)
+    (search needs)
+    (search needs)
+    (search needs)
     loop-again
     same-length
     same-length-2

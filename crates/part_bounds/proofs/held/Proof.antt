@@ -12,11 +12,8 @@ returns c = held-far _ _ _ _ _ _ (c .if1 .taken)
 returns-2 : tie.Need-returns-2
 returns-2 c = held-not _ _ _ _ _ _ (c .before .if1 .left)
 
-row-way-requires : tie.Need-row-way-requires
-row-way-requires c κs = search needs
-
 returns-3 : tie.Need-returns-3
 returns-3 c = held-by _ _ _ _ _ _ (c .before .before .if1 .left) (c .row-way .ensures) refl
 
 pub held-spec : {M : Type 1} → statement M
-held-spec = tie.close (tie.spec returns returns-2 row-way-requires returns-3)
+held-spec = tie.close (tie.spec returns returns-2 (λ c κs. search needs) returns-3)

@@ -6,32 +6,11 @@ use borrow.Author.Needs.{needs}
 use Rattle.part_bounds.proofs.is_asked.Statement.{statement}
 use Rattle.part_bounds.proofs.is_asked.Tie as tie
 
-row-word-requires : tie.Need-row-word-requires
-row-word-requires c κs = search needs
-
-wide-requires : tie.Need-wide-requires
-wide-requires c κs = search needs
-
-word-requires : tie.Need-word-requires
-word-requires c κs = search needs
-
 returns : tie.Need-returns
 returns c = asked-known _ _ _ _ (c .before .before .before .row-word .ensures) _ (c .before .before .wide .ensures) (c .before .word .ensures) (c .if1 .taken)
 
 returns-2 : tie.Need-returns-2
 returns-2 c = asked-all _ _ _ _ (c .before .before .before .before .row-word .ensures) (c .before .before .before .wide .ensures) (c .before .before .word .ensures) (c .before .if1 .left) (c .if2 .taken)
-
-row-word-requires-2 : tie.Need-row-word-requires-2
-row-word-requires-2 c κs = search needs
-
-wide-requires-2 : tie.Need-wide-requires-2
-wide-requires-2 c κs = search needs
-
-add-word : tie.Need-add-word
-add-word c = search needs
-
-word-requires-2 : tie.Need-word-requires-2
-word-requires-2 c κs = search needs
 
 returns-3 : tie.Need-returns-3
 returns-3 c = asked-shown _ _ _ _ (c .before .before .before .before .before .before .before .row-word .ensures) (c .before .before .before .before .before .before .wide .ensures) (c .before .before .before .before .before .word .ensures) (c .before .before .before .before .if1 .left) (c .before .before .before .if2 .left) (c .before .before .row-word2 .ensures) (c .before .wide2 .ensures) (c .word2 .ensures)
@@ -40,13 +19,13 @@ pub is-asked-spec : {M : Type 1} → statement M
 is-asked-spec =
     tie.close
     (tie.spec
-    row-word-requires
-    wide-requires
-    word-requires
+    (search needs)
+    (search needs)
+    (search needs)
     returns
     returns-2
-    row-word-requires-2
-    wide-requires-2
-    add-word
-    word-requires-2
+    (search needs)
+    (search needs)
+    (search needs)
+    (search needs)
     returns-3)

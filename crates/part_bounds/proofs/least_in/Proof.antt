@@ -22,12 +22,6 @@ abbrev μ-loop : tie.MeasureT-loop
 loop-holds : tie.Need-loop-holds Inv-loop μ-loop
 loop-holds c = (omega arith, least-none _)
 
-mul-j : tie.Need-mul-j Inv-loop μ-loop
-mul-j c = search needs
-
-shared-slice-read-j : tie.Need-shared-slice-read-j Inv-loop μ-loop
-shared-slice-read-j c = search needs
-
 cast-j : tie.Need-cast-j Inv-loop μ-loop
 cast-j c = omega (arith, c .shared-slice-known .given (c .before .before .loop .t))
 
@@ -40,23 +34,11 @@ shared-slice-read-way c = omega (arith, c .before .before .before .before .pre .
 cast-way : tie.Need-cast-way Inv-loop μ-loop
 cast-way c = omega (arith, c .shared-slice-known2 .given (word (c .before .before .before .before .args .places .now) (c .before .before .before .loop .t)))
 
-mul-way-2 : tie.Need-mul-way-2 Inv-loop μ-loop
-mul-way-2 c = search needs
-
-shared-slice-read-way-2 : tie.Need-shared-slice-read-way-2 Inv-loop μ-loop
-shared-slice-read-way-2 c = search needs
-
 cast-way-2 : tie.Need-cast-way-2 Inv-loop μ-loop
 cast-way-2 c = omega (arith, c .shared-slice-known3 .given (c .before .before .before .before .loop .t))
 
 add-way : tie.Need-add-way Inv-loop μ-loop
 add-way c = omega (arith, c .before .shared-slice-known2 .given (word (c .before .before .before .before .before .args .places .now) (c .before .before .before .before .loop .t)), c .shared-slice-known3 .given (c .before .before .before .before .loop .t))
-
-add-t : tie.Need-add-t Inv-loop μ-loop
-add-t c = search needs
-
-loop-less : tie.Need-loop-less Inv-loop μ-loop
-loop-less c = search needs
 
 loop-again : tie.Need-loop-again Inv-loop μ-loop
 loop-again c =
@@ -78,18 +60,18 @@ least-in-spec =
     Inv-loop
     μ-loop
     loop-holds
-    mul-j
-    shared-slice-read-j
+    (search needs)
+    (search needs)
     cast-j
     mul-way
     shared-slice-read-way
     cast-way
-    mul-way-2
-    shared-slice-read-way-2
+    (search needs)
+    (search needs)
     cast-way-2
     add-way
-    add-t
-    loop-less
+    (search needs)
+    (search needs)
     loop-again
     cast-result
     returns)

@@ -1,7 +1,6 @@
 -- `lower_key` makes the key less; a part that had none joins those that wait.
 -- Assumes nothing.
 use mathlib.Core.Path.{sym, _∙_, ap}
-use native.Mathlib.Omega.{arith}
 use lib.ListN.{length}
 use borrow.Author.Needs.{needs}
 use Rattle.part_bounds.proofs.Lowering.{lowered-length}
@@ -9,26 +8,8 @@ use Rattle.part_bounds.proofs.Spreading.{key-joins, key-stays, key-none
 use Rattle.part_bounds.proofs.lower_key.Statement.{statement}
 use Rattle.part_bounds.proofs.lower_key.Tie as tie
 
-wide-requires : tie.Need-wide-requires
-wide-requires c κs = search needs
-
-word-requires : tie.Need-word-requires
-word-requires c κs = search needs
-
-lower-requires : tie.Need-lower-requires
-lower-requires c κs = search needs
-
-put-requires : tie.Need-put-requires
-put-requires c κs = search needs
-
-add-result : tie.Need-add-result
-add-result c = search needs
-
 same-length : tie.Need-same-length
 same-length c = ap length (c .before .before .before .before .before .before .before .before .lower .ensures) ∙ lowered-length _ _ _
-
-same-length-2 : tie.Need-same-length-2
-same-length-2 c = search needs
 
 returns : tie.Need-returns
 returns c = key-joins (c .before .before .before .before .before .before .before .before .before .before .before .before .before .before .before .args .keys .now) (c .before .before .before .before .before .before .before .before .before .before .before .before .before .before .before .args .waits .now) (c .before .before .before .before .before .before .before .before .before .before .before .before .before .before .before .args .count) (c .before .before .before .before .before .before .before .before .before .before .before .before .before .before .before .args .part) (c .before .before .before .before .before .before .before .before .before .before .before .before .before .before .before .args .key) (c .before .before .before .before .before .before .before .before .before .before .before .before .wide .ensures) (c .before .before .before .before .before .before .before .before .before .before .word .ensures) (c .before .before .before .before .before .before .before .before .lower .ensures) (c .before .before .before .before .before .if1 .taken) (c .before .before .before .before .if2 .taken) (c .before .before .put .ensures)
@@ -49,13 +30,13 @@ pub lower-key-spec : {M : Type 1} → statement M
 lower-key-spec =
     tie.close
     (tie.spec
-    wide-requires
-    word-requires
-    lower-requires
-    put-requires
-    add-result
+    (search needs)
+    (search needs)
+    (search needs)
+    (search needs)
+    (search needs)
     same-length
-    same-length-2
+    (search needs)
     returns
     same-length-3
     returns-2

@@ -6,15 +6,6 @@ use borrow.Author.Needs.{needs}
 use Rattle.part_bounds.proofs.out_of.Statement.{statement}
 use Rattle.part_bounds.proofs.out_of.Tie as tie
 
-row-word-requires : tie.Need-row-word-requires
-row-word-requires c κs = search needs
-
-wide-requires : tie.Need-wide-requires
-wide-requires c κs = search needs
-
-word-requires : tie.Need-word-requires
-word-requires c κs = search needs
-
 returns : tie.Need-returns
 returns c = out-read _ _ _ _ (c .before .before .before .row-word .ensures) (c .before .before .if1 .taken) (c .before .wide .ensures) (c .word .ensures)
 
@@ -22,4 +13,4 @@ returns-2 : tie.Need-returns-2
 returns-2 c = out-elsewhere _ _ _ _ (c .before .row-word .ensures) (c .if1 .left)
 
 pub out-of-spec : {M : Type 1} → statement M
-out-of-spec = tie.close (tie.spec row-word-requires wide-requires word-requires returns returns-2)
+out-of-spec = tie.close (tie.spec (search needs) (search needs) (search needs) returns returns-2)

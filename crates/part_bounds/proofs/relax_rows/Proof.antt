@@ -19,9 +19,6 @@ abbrev μ-loop : tie.MeasureT-loop
 loop-holds : tie.Need-loop-holds Inv-loop μ-loop
 loop-holds c = (omega arith, closer-none)
 
-is-asked-requires : tie.Need-is-asked-requires Inv-loop μ-loop
-is-asked-requires c κs = search needs
-
 mul-row-way : tie.Need-mul-row-way Inv-loop μ-loop
 mul-row-way c = omega (arith, table-row (c .before .before .before .before .before .before .before .before .before .args .size) (c .before .before .before .before .loop .i) (c .before .before .before .before .before .before .before .before .before .pre .2) (c .before .before .before .loop-test .taken))
 
@@ -30,21 +27,6 @@ add-row-way c = omega (arith, table-row (c .before .before .before .before .befo
 
 row-way-requires : tie.Need-row-way-requires Inv-loop μ-loop
 row-way-requires c κs = row-asks _ _ (c .before .before .before .before .before .before .before .before .before .args .table) (c .before .before .before .before .before .before .before .before .before .args .size) (c .before .before .before .before .loop .i) (c .before .before .before .before .before .before .before .before .before .pre .1) (c .before .before .before .before .before .before .before .before .before .pre .2) (c .before .before .before .loop-test .taken) (c .before .before .before .before .before .before .before .before .before .pre .3)
-
-row-word-requires : tie.Need-row-word-requires Inv-loop μ-loop
-row-word-requires c κs = search needs
-
-wide-requires : tie.Need-wide-requires Inv-loop μ-loop
-wide-requires c κs = search needs
-
-lower-requires : tie.Need-lower-requires Inv-loop μ-loop
-lower-requires c κs = search needs
-
-add-i : tie.Need-add-i Inv-loop μ-loop
-add-i c = search needs
-
-loop-less : tie.Need-loop-less Inv-loop μ-loop
-loop-less c = search needs
 
 loop-again : tie.Need-loop-again Inv-loop μ-loop
 loop-again c =
@@ -69,15 +51,15 @@ relax-rows-spec =
     Inv-loop
     μ-loop
     loop-holds
-    is-asked-requires
+    (search needs)
     mul-row-way
     add-row-way
     row-way-requires
-    row-word-requires
-    wide-requires
-    lower-requires
-    add-i
-    loop-less
+    (search needs)
+    (search needs)
+    (search needs)
+    (search needs)
+    (search needs)
     loop-again
     same-length
     returns)

@@ -7,29 +7,11 @@ use borrow.Author.Needs.{needs}
 use Rattle.part_bounds.proofs.row_way.Statement.{statement}
 use Rattle.part_bounds.proofs.row_way.Tie as tie
 
-add-end : tie.Need-add-end
-add-end c = search needs
-
-mul-row : tie.Need-mul-row
-mul-row c = search needs
-
-sub-row : tie.Need-sub-row
-sub-row c = search needs
-
-part-row-start : tie.Need-part-row-start
-part-row-start c = search needs
-
-part-row-end : tie.Need-part-row-end
-part-row-end c = search needs
-
 least-in-requires : tie.Need-least-in-requires
 least-in-requires c κs = (c .before .before .before .before .before .pre .2, c .before .before .before .before .before .pre .3, λ t h. omega (arith, row-fits (c .before .before .before .before .before .args .mem .now) (c .before .before .before .before .before .args .at) (c .before .before .before .before .before .args .size) (c .before .if1 .taken), c .before .before .before .before .before .pre .4 t h))
 
 returns : tie.Need-returns
 returns c = over-row (c .before .before .before .before .before .before .args .mem .now) (c .before .before .before .before .before .before .args .at) (c .before .before .before .before .before .before .args .size) (c .before .before .before .before .before .before .args .places .now) (c .before .before .before .before .before .before .args .near .now) (c .before .before .before .before .before .before .args .count) (cut-row (c .before .before .before .before .before .before .args .mem .now) (c .before .before .before .before .before .before .args .at) (c .before .before .before .before .before .before .args .size)) (c .before .before .before .before .before .before .pre .4) (c .least-in .ensures)
-
-least-way-requires : tie.Need-least-way-requires
-least-way-requires c κs = search needs
 
 returns-2 : tie.Need-returns-2
 returns-2 c = search needs
@@ -38,12 +20,12 @@ pub row-way-spec : {M : Type 1} → statement M
 row-way-spec =
     tie.close
     (tie.spec
-    add-end
-    mul-row
-    sub-row
-    part-row-start
-    part-row-end
+    (search needs)
+    (search needs)
+    (search needs)
+    (search needs)
+    (search needs)
     least-in-requires
     returns
-    least-way-requires
+    (search needs)
     returns-2)

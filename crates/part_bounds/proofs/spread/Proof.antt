@@ -15,32 +15,11 @@ Inv-loop mem p dx keys₀ waits₀ n size first count₀ i₀ keys waits count i
 abbrev μ-loop : tie.MeasureT-loop
 μ-loop mem p dx keys₀ waits₀ n size first count₀ i₀ keys waits count i = size - i
 
-rows-in-requires : tie.Need-rows-in-requires Inv-loop μ-loop
-rows-in-requires c κs = search needs
-
-part-word-requires : tie.Need-part-word-requires Inv-loop μ-loop
-part-word-requires c κs = search needs
-
-wide-requires : tie.Need-wide-requires Inv-loop μ-loop
-wide-requires c κs = search needs
-
 loop-holds : tie.Need-loop-holds Inv-loop μ-loop
 loop-holds c = (omega arith, spread-none (c .before .before .before .before .before .before .before .pre .2))
 
-key-of-requires : tie.Need-key-of-requires Inv-loop μ-loop
-key-of-requires c κs = search needs
-
-row-word-requires : tie.Need-row-word-requires Inv-loop μ-loop
-row-word-requires c κs = search needs
-
 lower-key-requires : tie.Need-lower-key-requires Inv-loop μ-loop
 lower-key-requires c κs = omega (arith, c .before .before .before .before .before .loop .inv .1 .total, c .before .before .before .before .before .before .before .before .before .before .before .before .before .pre .1)
-
-add-i : tie.Need-add-i Inv-loop μ-loop
-add-i c = search needs
-
-loop-less : tie.Need-loop-less Inv-loop μ-loop
-loop-less c = search needs
 
 loop-again : tie.Need-loop-again Inv-loop μ-loop
 loop-again c = (
@@ -63,15 +42,15 @@ spread-spec =
     (tie.spec
     Inv-loop
     μ-loop
-    rows-in-requires
-    part-word-requires
-    wide-requires
+    (search needs)
+    (search needs)
+    (search needs)
     loop-holds
-    key-of-requires
-    row-word-requires
+    (search needs)
+    (search needs)
     lower-key-requires
-    add-i
-    loop-less
+    (search needs)
+    (search needs)
     loop-again
     same-length
     same-length-2

@@ -21,26 +21,8 @@ Inv-loop mem p c dx size first least₀ i₀ least i = (i ≤ size) × Least (ou
 abbrev μ-loop : tie.MeasureT-loop
 μ-loop mem p c dx size first least₀ i₀ least i = size - i
 
-rows-in-requires : tie.Need-rows-in-requires Inv-loop μ-loop
-rows-in-requires c κs = search needs
-
-part-word-requires : tie.Need-part-word-requires Inv-loop μ-loop
-part-word-requires c κs = search needs
-
-wide-requires : tie.Need-wide-requires Inv-loop μ-loop
-wide-requires c κs = search needs
-
 loop-holds : tie.Need-loop-holds Inv-loop μ-loop
 loop-holds c = (omega arith, least-none _)
-
-out-of-requires : tie.Need-out-of-requires Inv-loop μ-loop
-out-of-requires c κs = search needs
-
-add-i : tie.Need-add-i Inv-loop μ-loop
-add-i c = search needs
-
-loop-less : tie.Need-loop-less Inv-loop μ-loop
-loop-less c = search needs
 
 loop-again : tie.Need-loop-again Inv-loop μ-loop
 loop-again c =
@@ -58,12 +40,12 @@ way-out-spec =
     (tie.spec
     Inv-loop
     μ-loop
-    rows-in-requires
-    part-word-requires
-    wide-requires
+    (search needs)
+    (search needs)
+    (search needs)
     loop-holds
-    out-of-requires
-    add-i
-    loop-less
+    (search needs)
+    (search needs)
+    (search needs)
     loop-again
     returns)

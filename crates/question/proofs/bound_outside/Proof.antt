@@ -8,22 +8,10 @@ use Rattle.question.proofs.bound_outside.Tie as tie
 returns : tie.Need-returns
 returns c = bound-root _ _ _ (c .if1 .taken)
 
-wide-requires : tie.Need-wide-requires
-wide-requires c κs = search needs
-
-part-word-requires : tie.Need-part-word-requires
-part-word-requires c κs = search needs
-
-wide-requires-2 : tie.Need-wide-requires-2
-wide-requires-2 c κs = search needs
-
-way-out-requires : tie.Need-way-out-requires
-way-out-requires c κs = search needs
-
 returns-2 : tie.Need-returns-2
 returns-2 c = bound-other _ _ _ (c .before .before .before .before .if1 .left) (c .before .before .before .wide .ensures) (c .before .before .part-word .ensures) (c .before .wide2 .ensures) (c .way-out .ensures)
 
 pub bound-outside-spec : {M : Type 1} → statement M
 bound-outside-spec =
     tie.close
-    (tie.spec returns wide-requires part-word-requires wide-requires-2 way-out-requires returns-2)
+    (tie.spec returns (search needs) (search needs) (search needs) (search needs) returns-2)

@@ -5,24 +5,9 @@ use borrow.Author.Needs.{needs}
 use Rattle.question.proofs.give_up.Statement.{statement}
 use Rattle.question.proofs.give_up.Tie as tie
 
-word-requires : tie.Need-word-requires
-word-requires c κs = search needs
-
-sub-word : tie.Need-sub-word
-sub-word c = search needs
-
-word-requires-2 : tie.Need-word-requires-2
-word-requires-2 c κs = search needs
-
-put-requires : tie.Need-put-requires
-put-requires c κs = search needs
-
-same-length : tie.Need-same-length
-same-length c = search needs
-
 returns : tie.Need-returns
 returns c = given-up (c .before .before .before .before .before .before .before .before .before .args .waits .now) (c .before .before .before .before .before .before .before .before .before .args .at) (c .before .before .before .before .before .before .before .before .before .args .n) (c .before .before .before .before .before .before .word .ensures) (c .before .before .before .before .word2 .ensures) (c .before .before .put .ensures)
 
 pub give-up-spec : {M : Type 1} → statement M
 give-up-spec =
-    tie.close (tie.spec word-requires sub-word word-requires-2 put-requires same-length returns)
+    tie.close (tie.spec (search needs) (search needs) (search needs) (search needs) (search needs) returns)

@@ -8,33 +8,6 @@ use borrow.Author.Needs.{needs}
 use Rattle.question.proofs.search_at.Statement.{statement}
 use Rattle.question.proofs.search_at.Tie as tie
 
-counts-in-requires : tie.Need-counts-in-requires
-counts-in-requires c κs = search needs
-
-vertex-word-requires : tie.Need-vertex-word-requires
-vertex-word-requires c κs = search needs
-
-wide-requires : tie.Need-wide-requires
-wide-requires c κs = search needs
-
-put-requires : tie.Need-put-requires
-put-requires c κs = search needs
-
-empty-requires : tie.Need-empty-requires
-empty-requires c κs = search needs
-
-take-leaf-requires : tie.Need-take-leaf-requires
-take-leaf-requires c κs = search needs
-
-wide-requires-2 : tie.Need-wide-requires-2
-wide-requires-2 c κs = search needs
-
-lower-requires : tie.Need-lower-requires
-lower-requires c κs = search needs
-
-bound-outside-requires : tie.Need-bound-outside-requires
-bound-outside-requires c κs = search needs
-
 search-on-requires : tie.Need-search-on-requires
 search-on-requires c κs =
     let b : Begun _ _ _ _ = begun _ _ _ _ _ _ _ (c .before .before .before .before .before .before .before .before .before .before .before .before .before .before .before .before .before .before .before .before .before .before .before .before .before .before .before .before .before .before .before .pre .2) (c .before .before .before .before .before .before .before .before .before .before .before .before .before .before .before .before .before .before .before .before .before .before .before .before .before .counts-in .ensures) (c .before .before .before .before .before .before .before .before .before .before .before .before .before .before .before .before .before .before .before .before .before .before .before .before .vertex-word .ensures) (c .before .before .before .before .before .before .before .before .before .before .before .before .before .before .before .before .before .before .before .before .before .before .wide .ensures) (c .before .before .before .before .before .before .before .before .before .before .before .before .before .before .before .before .before .before .before .before .before .put .ensures) (c .before .before .before .before .before .before .before .before .before .before .before .before .before .before .before .before .empty .ensures) (c .before .before .before .before .before .before .before .before .before .before .before .before .before .before .before .take-leaf .ensures) (c .before .before .before .before .before .before .before .before .before .wide2 .ensures) (c .before .before .before .before .before .before .before .before .lower .ensures) in
@@ -42,15 +15,6 @@ search-on-requires c κs =
 
 same-length : tie.Need-same-length
 same-length c = omega (arith, ap length (c .before .before .before .before .before .before .before .before .before .before .before .before .before .before .before .before .before .before .before .before .before .before .before .before .before .before .before .before .before .before .put .ensures), length-set (c .before .before .before .before .before .before .before .before .before .before .before .before .before .before .before .before .before .before .before .before .before .before .before .before .before .before .before .before .before .before .before .before .before .before .before .before .before .before .before .before .args .dx .now) (c .before .before .before .before .before .before .before .before .before .before .before .before .before .before .before .before .before .before .before .before .before .before .before .before .before .before .before .before .before .before .before .wide .result) 0)
-
-same-length-2 : tie.Need-same-length-2
-same-length-2 c = search needs
-
-same-length-3 : tie.Need-same-length-3
-same-length-3 c = search needs
-
-same-length-4 : tie.Need-same-length-4
-same-length-4 c = search needs
 
 returns : tie.Need-returns
 returns c = (
@@ -64,18 +28,18 @@ pub search-at-spec : {M : Type 1} → statement M
 search-at-spec =
     tie.close
     (tie.spec
-    counts-in-requires
-    vertex-word-requires
-    wide-requires
-    put-requires
-    empty-requires
-    take-leaf-requires
-    wide-requires-2
-    lower-requires
-    bound-outside-requires
+    (search needs)
+    (search needs)
+    (search needs)
+    (search needs)
+    (search needs)
+    (search needs)
+    (search needs)
+    (search needs)
+    (search needs)
     search-on-requires
     same-length
-    same-length-2
-    same-length-3
-    same-length-4
+    (search needs)
+    (search needs)
+    (search needs)
     returns)

@@ -18,41 +18,11 @@ Inv-loop mem answer₀ counts len fars vans i₀ answer i = (i ≤ len) × Writi
 abbrev μ-loop : tie.MeasureT-loop
 μ-loop mem answer₀ counts len fars vans i₀ answer i = len - i
 
-counts-in-requires : tie.Need-counts-in-requires Inv-loop μ-loop
-counts-in-requires c κs = search needs
-
 loop-holds : tie.Need-loop-holds Inv-loop μ-loop
 loop-holds c =
     let f : length (c .before .before .before .before .before .args .best .fars) ≡ 32 = search needs in
     let v : length (c .before .before .before .before .before .args .best .vans) ≡ 32 = search needs in
     (omega arith, write-none (c .before .before .before .before .before .args .mem .now) (c .before .before .counts-in .result) (c .before .before .before .before .before .args .best .fars) (c .before .before .before .before .before .args .best .vans) (c .before .before .before .before .before .args .best .len) (c .before .before .before .before .before .pre .0) f v (c .before .before .before .before .before .args .answer .now) (c .before .before .before .before .before .pre .1))
-
-mul-far : tie.Need-mul-far Inv-loop μ-loop
-mul-far c = search needs
-
-array-read-far : tie.Need-array-read-far Inv-loop μ-loop
-array-read-far c = search needs
-
-mul-van : tie.Need-mul-van Inv-loop μ-loop
-mul-van c = search needs
-
-array-read-van : tie.Need-array-read-van Inv-loop μ-loop
-array-read-van c = search needs
-
-van-word-requires : tie.Need-van-word-requires Inv-loop μ-loop
-van-word-requires c κs = search needs
-
-mul-put3 : tie.Need-mul-put3 Inv-loop μ-loop
-mul-put3 c = search needs
-
-put3-requires : tie.Need-put3-requires Inv-loop μ-loop
-put3-requires c κs = search needs
-
-add-i : tie.Need-add-i Inv-loop μ-loop
-add-i c = search needs
-
-loop-less : tie.Need-loop-less Inv-loop μ-loop
-loop-less c = search needs
 
 loop-again : tie.Need-loop-again Inv-loop μ-loop
 loop-again c =
@@ -75,17 +45,17 @@ write-list-spec =
     (tie.spec
     Inv-loop
     μ-loop
-    counts-in-requires
+    (search needs)
     loop-holds
-    mul-far
-    array-read-far
-    mul-van
-    array-read-van
-    van-word-requires
-    mul-put3
-    put3-requires
-    add-i
-    loop-less
+    (search needs)
+    (search needs)
+    (search needs)
+    (search needs)
+    (search needs)
+    (search needs)
+    (search needs)
+    (search needs)
+    (search needs)
     loop-again
     same-length
     returns)

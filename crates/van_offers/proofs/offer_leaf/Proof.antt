@@ -21,36 +21,6 @@ abbrev μ-loop : tie.MeasureT-loop
 loop-holds : tie.Need-loop-holds Inv-loop μ-loop
 loop-holds c = (omega arith, rw sub-zero)
 
-mul-word : tie.Need-mul-word Inv-loop μ-loop
-mul-word c = search needs
-
-add-word : tie.Need-add-word Inv-loop μ-loop
-add-word c = search needs
-
-add-word-2 : tie.Need-add-word-2 Inv-loop μ-loop
-add-word-2 c = search needs
-
-word-requires : tie.Need-word-requires Inv-loop μ-loop
-word-requires c κs = search needs
-
-wide-requires : tie.Need-wide-requires Inv-loop μ-loop
-wide-requires c κs = search needs
-
-word-requires-2 : tie.Need-word-requires-2 Inv-loop μ-loop
-word-requires-2 c κs = search needs
-
-vertex-word-requires : tie.Need-vertex-word-requires Inv-loop μ-loop
-vertex-word-requires c κs = search needs
-
-offer-vans-requires : tie.Need-offer-vans-requires Inv-loop μ-loop
-offer-vans-requires c κs = search needs
-
-add-i : tie.Need-add-i Inv-loop μ-loop
-add-i c = search needs
-
-loop-less : tie.Need-loop-less Inv-loop μ-loop
-loop-less c = search needs
-
 loop-again : tie.Need-loop-again Inv-loop μ-loop
 loop-again c =
     elim (c .if1 .came) [
@@ -74,15 +44,15 @@ offer-leaf-spec =
     Inv-loop
     μ-loop
     loop-holds
-    mul-word
-    add-word
-    add-word-2
-    word-requires
-    wide-requires
-    word-requires-2
-    vertex-word-requires
-    offer-vans-requires
-    add-i
-    loop-less
+    (search needs)
+    (search needs)
+    (search needs)
+    (search needs)
+    (search needs)
+    (search needs)
+    (search needs)
+    (search needs)
+    (search needs)
+    (search needs)
     loop-again
     returns)

@@ -19,9 +19,6 @@ Inv-loop mem counts first near k list₀ link₀ left₀ list link left = (list 
 abbrev μ-loop : tie.MeasureT-loop
 μ-loop mem counts first near k list₀ link₀ left₀ list link left = left
 
-limit-requires : tie.Need-limit-requires Inv-loop μ-loop
-limit-requires c κs = search needs
-
 returns : tie.Need-returns Inv-loop μ-loop
 returns c = (omega arith, sym (vans-beyond _ _ _ _ _ 1024 _ (search needs) (subst (λ (n : ℕ). n < c .before .before .before .args .near) (c .before .limit .ensures _) (c .if1 .taken))))
 
@@ -30,27 +27,6 @@ loop-holds c = (omega arith, refl)
 
 returns-2 : tie.Need-returns-2 Inv-loop μ-loop
 returns-2 c = (c .before .before .loop .inv .0, vans-end _ _ _ _ _ (c .before .before .loop .left) _ (c .if2 .taken) (c .before .before .loop .inv .1))
-
-sub-van : tie.Need-sub-van Inv-loop μ-loop
-sub-van c = search needs
-
-van-word-requires : tie.Need-van-word-requires Inv-loop μ-loop
-van-word-requires c κs = search needs
-
-far-sum-requires : tie.Need-far-sum-requires Inv-loop μ-loop
-far-sum-requires c κs = search needs
-
-van-word-requires-2 : tie.Need-van-word-requires-2 Inv-loop μ-loop
-van-word-requires-2 c κs = search needs
-
-offer-requires : tie.Need-offer-requires Inv-loop μ-loop
-offer-requires c κs = search needs
-
-sub-left : tie.Need-sub-left Inv-loop μ-loop
-sub-left c = search needs
-
-loop-less : tie.Need-loop-less Inv-loop μ-loop
-loop-less c = search needs
 
 loop-again : tie.Need-loop-again Inv-loop μ-loop
 loop-again c = (
@@ -67,16 +43,16 @@ offer-vans-spec =
     (tie.spec
     Inv-loop
     μ-loop
-    limit-requires
+    (search needs)
     returns
     loop-holds
     returns-2
-    sub-van
-    van-word-requires
-    far-sum-requires
-    van-word-requires-2
-    offer-requires
-    sub-left
-    loop-less
+    (search needs)
+    (search needs)
+    (search needs)
+    (search needs)
+    (search needs)
+    (search needs)
+    (search needs)
     loop-again
     returns-3)

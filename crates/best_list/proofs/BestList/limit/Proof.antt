@@ -15,15 +15,6 @@ returns c =
     let v : length (c .before .args .self .vans) ≡ 32 = search needs in
     λ stampOf. sym (limit-room stampOf _ _ _ _ (omega arith) (omega arith) (c .if1 .taken))
 
-sub-last : tie.Need-sub-last
-sub-last c = search needs
-
-mul-result : tie.Need-mul-result
-mul-result c = search needs
-
-array-read-result : tie.Need-array-read-result
-array-read-result c = search needs
-
 returns-2 : tie.Need-returns-2
 returns-2 c =
     let f : length (c .before .before .args .self .fars) ≡ 32 = search needs in
@@ -31,4 +22,4 @@ returns-2 c =
     λ stampOf. sym (limit-full stampOf _ _ _ _ (omega arith) (omega arith) (c .before .if1 .left) (omega arith))
 
 pub limit-spec : {M : Type 1} → statement M
-limit-spec = tie.close (tie.spec returns sub-last mul-result array-read-result returns-2)
+limit-spec = tie.close (tie.spec returns (search needs) (search needs) (search needs) returns-2)
