@@ -9,6 +9,7 @@ use native.Mathlib.Decide.{decLt}
 use native.Mathlib.Omega.{arith}
 use borrow.Author.Tests.{lt-ltb, le-ltb}
 use Rattle.words.specs.Limits.{FAR}
+use Rattle.words.specs.Lists.{keep}
 use Rattle.rows.specs.declared.Row.{Row}
 use Rattle.rows.specs.Row.{emptyRow, comesBefore, nearer}
 use Rattle.rows.specs.Refresh.{onward}
@@ -131,3 +132,14 @@ module _ {A : Type 0} (new : A → Row) (old : A → Row) (test : A → Bool) wh
           ∙ nearer-absorbs (new x) (old x) (nearestOf (map new xs)) (nears x (List·Memᴰ·head refl))
       by false e later =
           met-start (old x) start xs ∙ ap (nearer (old x)) later ∙ ap (λ (row : Row). nearer row (nearestOf (map new xs))) (sym (kept x (List·Memᴰ·head refl) e))
+
+  -- entries that change nothing may be left out
+  pub met-kept : (start : Row) (kept : A → Bool) (xs : List A)
+      → ((x : A) → List·Memᴰ x xs → kept x ≡ false → (ys : List A) → cond (test x) (nearer (new x) (met start ys)) (met start ys) ≡ met start ys) → met start (keep kept xs) ≡ met start xs
+  met-kept start kept [] needless = refl
+  met-kept start kept (x ∷ xs) needless = by (kept x) refl (met-kept start kept xs (λ y h. needless y (List·Memᴰ·tail h)))
+    where
+      by : (b : Bool) → kept x ≡ b → met start (keep kept xs) ≡ met start xs
+          → met start (cond b (x ∷ keep kept xs) (keep kept xs)) ≡ cond (test x) (nearer (new x) (met start xs)) (met start xs)
+      by true e later = ap (λ (row : Row). cond (test x) (nearer (new x) row) row) later
+      by false e later = later ∙ sym (needless x (List·Memᴰ·head refl) e xs)

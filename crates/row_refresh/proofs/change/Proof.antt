@@ -1,5 +1,6 @@
 -- `row_refresh::change` is `changed`, and says `touches`.
-use Rattle.row_refresh.proofs.Chain.{changed-arrived, changed-departed}
+use mathlib.Core.Bool.{true, false}
+use Rattle.row_refresh.proofs.Chain.{changed-as}
 use borrow.Author.Needs.{needs}
 use Rattle.row_refresh.proofs.change.Statement.{statement}
 use Rattle.row_refresh.proofs.change.Tie as tie
@@ -13,9 +14,7 @@ same-length c = search needs
 returns : tie.Need-returns
 returns c =
     let args′ = c .before .before .before .before .before .before .args in
-    let if1′ = c .before .before .before .before .if1 in
-    let arrive′ = c .before .before .arrive in
-    changed-arrived (args′ .mem .now) (args′ .rows) (args′ .table) (args′ .size) (args′ .v) (args′ .arrives) _ _ (if1′ .taken) (arrive′ .ensures)
+    changed-as (args′ .mem .now) (args′ .rows) (args′ .table) (args′ .size) (args′ .v) (args′ .arrives) true _ _ (c .before .before .before .before .if1 .taken) (c .before .before .arrive .ensures)
 
 depart-requires : tie.Need-depart-requires
 depart-requires c κs = search needs
@@ -26,9 +25,7 @@ same-length-2 c = search needs
 returns-2 : tie.Need-returns-2
 returns-2 c =
     let args′ = c .before .before .before .before .before .before .args in
-    let if1′ = c .before .before .before .before .if1 in
-    let depart′ = c .before .before .depart in
-    changed-departed (args′ .mem .now) (args′ .rows) (args′ .table) (args′ .size) (args′ .v) (args′ .arrives) _ _ (if1′ .left) (depart′ .ensures)
+    changed-as (args′ .mem .now) (args′ .rows) (args′ .table) (args′ .size) (args′ .v) (args′ .arrives) false _ _ (c .before .before .before .before .if1 .left) (c .before .before .depart .ensures)
 
 pub change-spec : {M : Type 1} → statement M
 change-spec =

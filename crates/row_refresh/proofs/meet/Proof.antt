@@ -10,7 +10,7 @@ source-requires : tie.Need-source-requires
 source-requires c κs = search needs
 
 row-at-requires : tie.Need-row-at-requires
-row-at-requires c κs = search needs
+row-at-requires c κs = omega arith
 
 comes-before-requires : tie.Need-comes-before-requires
 comes-before-requires c κs = search needs
