@@ -3,7 +3,7 @@
 use mathlib.Core.Path.{_≡_, refl, sym, _∙_, ap, subst, subst⁻¹}
 use mathlib.Core.Logic.{inl, inr, ⊎-elim}
 use mathlib.Core.Bool.{Bool, true, false, _&&_, _||_, cond, true≢false}
-use mathlib.Core.List.{List, [], _∷_, List·Memᴰ, List·Memᴰ·head, List·Memᴰ·tail}
+use mathlib.Core.List.{List, [], _∷_, List·Memᴰ, List·Memᴰ·head, List·Memᴰ·tail, List·Memᴰ·cases-cons}
 use Prim.Native.Nat.{ℕ, zero, suc, _+_, _*_, _≤_, _<_}
 use native.Mathlib.Decide.{ℕ-discrete}
 use native.Mathlib.Omega.{arith}
@@ -11,13 +11,14 @@ use lib.ListN.{length}
 use lib.Dec.{eqb}
 use borrow.Author.Tests.{eqb-true}
 use Rattle.words.specs.Lists.{word, upTo, countFrom, keep}
-use Rattle.words.proofs.Lists.{countFrom-below, keep-says}
+use Rattle.words.proofs.Lists.{countFrom-below, keep-says, upTo-has}
 use Rattle.rows.specs.declared.Row.{Row}
 use Rattle.rows.specs.Row.{comesBefore, nearer}
 use Rattle.rows.specs.Refresh.{onward}
 use Rattle.rows.proofs.Above.{RowLe, le-trans, nearer-is}
-use Rattle.row_changes.proofs.Order.{onward-le, onward-twice, nearer-kept, not-before, met, met-turn, met-kept}
-use Rattle.row_refresh.specs.Model.{rowIn, sourceIn, offered, spread, isNews, met as metIn, arrived, anyNews, bringing}
+use Rattle.row_changes.proofs.Order.{onward-le, onward-twice, nearer-kept, not-before, met, met-turn, met-kept, met-again}
+use Rattle.row_refresh.specs.Model.{rowIn, sourceIn, offered, spread, isNews, met as metIn, arrived, anyNews, bringing, lead, led}
+use Rattle.row_refresh.proofs.Chain.{lead-within}
 use Rattle.row_memory.specs.Kept.{Kept}
 use Rattle.row_memory.proofs.Offered.{Plain, onward-plain, nearer-plain, offered-row, OneRow, kept-self, kept-trans, one-offered}
 
@@ -211,13 +212,11 @@ module _ (rows size table : ℕ) (from : ℕ → Row) (far : ℕ → ℕ → ℕ
               ∙ met-turn (seenFrom j) (seenFrom j) showsIt (rowIn mem (rows + 4 * j)) n places;
         }
 
-    -- as they are where all sources that show v are
-    pub arrived-rows : Triangle size far → (mem : List ℕ) → Ready rows size table from far mem → PlainRows mem → Closed mem
-        → Rows (λ j. met (seenFrom j) (seenFrom j) showsIt (rowIn mem (rows + 4 * j)) (countFrom 0 size)) mem (arrived (bringing mem rows size v) mem rows table size v)
-    unfolding bringing
-    arrived-rows triangle mem ready plain closed =
-        let done = arrived-at triangle (keep brings (upTo size)) (λ i h. place i (keep-says brings (upTo size) i h .0)) mem ready plain closed in
-        record { kept = done .kept; shows = λ j h. done .shows j h ∙ met-kept (seenFrom j) (seenFrom j) showsIt (rowIn mem (rows + 4 * j)) brings (upTo size) (needless j) }
+    -- all sources that show v are, and the others change nothing
+    pub arrived-rows : size ≤ 128 → Triangle size far → (mem : List ℕ) → Ready rows size table from far mem → PlainRows mem → Closed mem
+        → Rows (λ j. met (seenFrom j) (seenFrom j) showsIt (rowIn mem (rows + 4 * j)) (countFrom 0 size)) mem (arrived (led (bringing mem rows size v) mem rows) mem rows table size v)
+    unfolding bringing led arrived
+    arrived-rows few triangle mem ready plain closed = by (keep brings (upTo size)) refl
       where
         brings : ℕ → Bool
         brings i = eqb (sourceIn mem (rows + 4 * i) .vertex) v
@@ -225,12 +224,36 @@ module _ (rows size table : ℕ) (from : ℕ → Row) (far : ℕ → ℕ → ℕ
         place : (i : ℕ) → List·Memᴰ i (upTo size) → i < size
         place i h = omega (arith, countFrom-below 0 size i h)
 
-        needless : (j i : ℕ) → List·Memᴰ i (upTo size) → brings i ≡ false → (ys : List ℕ)
-            → turned j i (met (seenFrom j) (seenFrom j) showsIt (rowIn mem (rows + 4 * j)) ys) ≡ met (seenFrom j) (seenFrom j) showsIt (rowIn mem (rows + 4 * j)) ys
+        rowMet : ℕ → List ℕ → Row
+        rowMet j = met (seenFrom j) (seenFrom j) showsIt (rowIn mem (rows + 4 * j))
+
+        needless : (j i : ℕ) → List·Memᴰ i (upTo size) → brings i ≡ false → (ys : List ℕ) → turned j i (rowMet j ys) ≡ rowMet j ys
         needless j i h e ys =
-            let row : Row = met (seenFrom j) (seenFrom j) showsIt (rowIn mem (rows + 4 * j)) ys in
-            ap (λ (b : Bool). cond b (nearer (seenFrom j i) row) row)
-            (ap (λ (s : Row). eqb (s .vertex) v) (sym (ready .facts mem (kept-self rows size mem) .source i (place i h))) ∙ e)
+            ap (λ (b : Bool). cond b (nearer (seenFrom j i) (rowMet j ys)) (rowMet j ys)) (ap (λ (s : Row). eqb (s .vertex) v) (sym (ready .facts mem (kept-self rows size mem) .source i (place i h))) ∙ e)
+
+        all-met : (j : ℕ) → rowMet j (keep brings (upTo size)) ≡ rowMet j (upTo size)
+        all-met j = met-kept (seenFrom j) (seenFrom j) showsIt (rowIn mem (rows + 4 * j)) brings (upTo size) (needless j)
+
+        within : (i : ℕ) → List·Memᴰ i (keep brings (upTo size)) → i < size
+        within i h = place i (keep-says brings (upTo size) i h .0)
+
+        by : (places : List ℕ) → keep brings (upTo size) ≡ places → Rows (λ j. rowMet j (upTo size)) mem (arrived (led places mem rows) mem rows table size v)
+        by [] e = record { kept = kept-self rows size mem; shows = λ j h. ap (rowMet j) (sym e) ∙ all-met j }
+        by (n ∷ places) e =
+            let inside : (i : ℕ) → List·Memᴰ i (n ∷ places) → i < size = λ i h. within i (subst⁻¹ (λ (l : List ℕ). List·Memᴰ i l) e h) in
+            let first : ℕ = lead (n ∷ places) mem rows in
+            let hf : first < size = lead-within mem rows size few (omega (arith, inside n (List·Memᴰ·head refl))) (n ∷ places) inside in
+            let done =
+            arrived-at triangle (first ∷ n ∷ places) (λ i h. ⊎-elim (λ same. subst⁻¹ (λ (k : ℕ). k < size) same hf) (inside i) (List·Memᴰ·cases-cons h)) mem ready plain closed
+            in
+            record {
+              kept = done .kept;
+              shows =
+                  λ j h.
+                  done .shows j h
+                  ∙ ap (turned j first) (ap (rowMet j) (sym e) ∙ all-met j)
+                  ∙ met-again (seenFrom j) (seenFrom j) showsIt (rowIn mem (rows + 4 * j)) first (upTo size) (upTo-has size first hf);
+            }
 
     news-kept : (places mem : List ℕ) → anyNews true places mem rows table size v ≡ true
     unfolding anyNews

@@ -2,7 +2,7 @@
 -- Assumes nothing.
 use mathlib.Core.Path.{_≡_, refl, sym, _∙_, ap}
 use mathlib.Core.Bool.{Bool, true, false, _||_, _&&_, cond}
-use mathlib.Core.List.{List, [], _∷_, map}
+use mathlib.Core.List.{List, [], _∷_, map, List·Memᴰ, List·Memᴰ·head, List·Memᴰ·tail}
 use mathlib.Core.Logic.{inl, inr}
 use Prim.Native.Nat.{ℕ, zero, suc, _+_, _-_, _*_, _/_, _%_, _≤_, _<_}
 use native.Mathlib.Nat.{mul-suc, mul-le-mul-left}
@@ -17,7 +17,7 @@ use Rattle.words.specs.Limits.{FAR}
 use Rattle.words.proofs.Tests.{PairBefore, pair-if}
 use Rattle.rows.specs.declared.Row.{Row}
 use Rattle.rows.specs.Row.{emptyRow, comesBefore}
-use Rattle.row_refresh.specs.Model.{rowIn, shown, sourceIn, improves, offeredTo, offered, placed, unplaced, placedSeen, spread, isNews, met, arrived, anyNews, bringing, showing, filled, farKey, unkeyed, sourceKey, lesser, gathered, renewed, departed, partAt, rowsHere, fits, changed, touches, refreshed, touched, refreshedUp, vertexAt, ownRow, switched}
+use Rattle.row_refresh.specs.Model.{rowIn, shown, sourceIn, improves, offeredTo, offered, placed, unplaced, placedSeen, spread, isNews, met, arrived, anyNews, bringing, leadFrom, lead, led, showing, filled, farKey, unkeyed, sourceKey, lesser, gathered, renewed, departed, partAt, rowsHere, fits, changed, touches, refreshed, touched, refreshedUp, vertexAt, ownRow, switched}
 
 -- one line less of a table
 pub line-less : (size left n : ℕ) → left ≡ suc n → size * left ≡ size * n + size
@@ -152,6 +152,54 @@ module _ (places : List ℕ) (k : ℕ) (h : length places ≤ k) (mem : List ℕ
   unfolding anyNews
   news-done any = ap (λ (l : List ℕ). anyNews any l mem rows table size v) (drop-of-length-le places h)
 
+-- The place that leads.
+module _ (mem : List ℕ) (rows : ℕ) where
+  pub lead-turn : (places : List ℕ) (k i place best next : ℕ) (s : Row) → k < length places → i ≡ getD places k 0 → s ≡ sourceIn mem (rows + 4 * i) → place ≡ placed (getD places k 0) (s .distance) → next ≡ lesser best place
+      → leadFrom (drop (k + 1) places) mem rows next ≡ leadFrom (drop k places) mem rows best
+  unfolding leadFrom
+  lead-turn places k i place best next s h p q r e =
+      (λ t. leadFrom (drop (add-one k t) places) mem rows ((e ∙ ap (lesser best) (r ∙ ap (λ (x : Row). placed (getD places k 0) (x .distance)) (q ∙ ap (λ (j : ℕ). sourceIn mem (rows + 4 * j)) p))) t))
+      ∙ ap (λ (l : List ℕ). leadFrom l mem rows best) (sym (drop-cons places k 0 h))
+
+  pub lead-done : (places : List ℕ) (k best : ℕ) → length places ≤ k → leadFrom (drop k places) mem rows best ≡ best
+  unfolding leadFrom
+  lead-done places k best h = ap (λ (l : List ℕ). leadFrom l mem rows best) (drop-of-length-le places h)
+
+  -- it is one of the places
+  lead-from : (size : ℕ) → size ≤ 128 → (places : List ℕ) → ((i : ℕ) → List·Memᴰ i places → i < size) → (best : ℕ) → best % 4294967296 < size → leadFrom places mem rows best % 4294967296 < size
+  unfolding leadFrom lesser
+  lead-from size few [] within best h = h
+  lead-from size few (i ∷ places) within best h = lead-from size few places (λ j k. within j (List·Memᴰ·tail k)) (cond (ltb new best) new best) (by (ltb new best))
+    where
+      d : ℕ
+      d = sourceIn mem (rows + 4 * i) .distance
+
+      new : ℕ
+      new = placed i d
+
+      here : placed i d % 4294967296 < size
+      here = let small : i < size = within i (List·Memᴰ·head refl) in omega arith
+
+      by : (b : Bool) → cond b new best % 4294967296 < size
+      by true = here
+      by false = h
+
+  pub lead-within : (size : ℕ) → size ≤ 128 → 0 < size → (places : List ℕ) → ((i : ℕ) → List·Memᴰ i places → i < size) → lead places mem rows < size
+  lead-within size few some places within = lead-from size few places within (placed 0 FAR) some
+
+pub led-arrived : (places mem middle end : List ℕ) (rows table size v i : ℕ) (any after : Bool) → i ≡ lead places mem rows
+    → (middle ≡ met mem rows size v (rows + 4 * i) (table + size * i)) × (any ≡ (isNews mem v (rows + 4 * i) || false))
+    → (end ≡ arrived places middle rows table size v) × (after ≡ anyNews any places middle rows table size v)
+    → (end ≡ arrived (lead places mem rows ∷ places) mem rows table size v) × (after ≡ anyNews false (lead places mem rows ∷ places) mem rows table size v)
+unfolding arrived anyNews
+led-arrived places mem middle end rows table size v i any after p q r = (
+  r .0 ∙ ap (λ (l : List ℕ). arrived places l rows table size v) (q .0 ∙ first),
+  r .1 ∙ λ t. anyNews ((q .1 ∙ ap (λ (j : ℕ). isNews mem v (rows + 4 * j) || false) p) t) places ((q .0 ∙ first) t) rows table size v,
+)
+  where
+    first : met mem rows size v (rows + 4 * i) (table + size * i) ≡ met mem rows size v (rows + 4 * lead places mem rows) (table + size * lead places mem rows)
+    first = ap (λ (j : ℕ). met mem rows size v (rows + 4 * j) (table + size * j)) p
+
 -- A key.
 pub lesser-taken : (a b : ℕ) → b < a → b ≡ lesser a b
 unfolding lesser
@@ -194,10 +242,26 @@ renewed-done places mem keys steps rows table k h = ap (λ (l : List ℕ). renew
 
 -- One part.
 module _ (mem : List ℕ) (rows table size v : ℕ) where
-  pub changed-arrived : (places end : List ℕ) (any : Bool) → places ≡ bringing mem rows size v → (end ≡ arrived places mem rows table size v) × (any ≡ anyNews false places mem rows table size v)
-      → (end ≡ changed mem rows table size v true) × (any ≡ touches mem rows table size v true)
-  unfolding changed touches
-  changed-arrived places end any e h = (h .0 ∙ ap (λ (l : List ℕ). arrived l mem rows table size v) e, h .1 ∙ ap (λ (l : List ℕ). anyNews false l mem rows table size v) e)
+  module _ (places : List ℕ) (e : places ≡ bringing mem rows size v) where
+    pub arrived-some : (end : List ℕ) (any : Bool) → 0 < length places
+        → (end ≡ arrived (lead places mem rows ∷ places) mem rows table size v) × (any ≡ anyNews false (lead places mem rows ∷ places) mem rows table size v)
+        → (end ≡ changed mem rows table size v true) × (any ≡ touches mem rows table size v true)
+    unfolding changed touches led
+    arrived-some end any some h = (
+      h .0 ∙ ap (λ (l : List ℕ). arrived l mem rows table size v) (led-some places some ∙ ap (λ (l : List ℕ). led l mem rows) e),
+      h .1 ∙ ap (λ (l : List ℕ). anyNews false l mem rows table size v) (led-some places some ∙ ap (λ (l : List ℕ). led l mem rows) e),
+    )
+      where
+        led-some : (l : List ℕ) → 0 < length l → lead l mem rows ∷ l ≡ led l mem rows
+        led-some [] some = absurd (omega arith)
+        led-some (i ∷ l) some = refl
+
+    pub arrived-none : length places ≤ 0 → (mem ≡ changed mem rows table size v true) × (false ≡ touches mem rows table size v true)
+    unfolding changed touches led arrived anyNews
+    arrived-none none = (
+      ap (λ (l : List ℕ). arrived (led l mem rows) mem rows table size v) (sym (drop-of-length-le places none) ∙ e),
+      ap (λ (l : List ℕ). anyNews false (led l mem rows) mem rows table size v) (sym (drop-of-length-le places none) ∙ e),
+    )
 
   pub changed-as : (is was : Bool) (end : List ℕ) (any : Bool) → is ≡ was → (end ≡ changed mem rows table size v was) × (any ≡ touches mem rows table size v was)
       → (end ≡ changed mem rows table size v is) × (any ≡ touches mem rows table size v is)

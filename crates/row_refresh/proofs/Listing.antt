@@ -11,8 +11,8 @@ use native.Mathlib.Numerals.{add-one}
 use native.Mathlib.Omega.{arith}
 use lib.ListN.{length, getD, take, set, length-map}
 use lib.Seq.{take-suc-set, take-set-le, length-take-le, getD-take, getD-set-same, getD-set-other}
-use Rattle.words.specs.Lists.{word, upTo, countFrom, keep}
-use Rattle.words.proofs.Lists.{countFrom-below, keep-says, map-at}
+use Rattle.words.specs.Lists.{word, upTo, countFrom, keep, placeIn}
+use Rattle.words.proofs.Lists.{countFrom-below, keep-says, map-at, place-in}
 use Rattle.words.proofs.Places.{entry-in}
 use Rattle.row_refresh.specs.Lists.{Within, Small, Steps, Renewable}
 
@@ -79,6 +79,10 @@ listed-count n array h = sym (length-take-le n array h)
 pub small-listed : (n : ℕ) (array : List ℕ) → n ≤ length array → Small n array → Small (length (take n array)) (take n array)
 small-listed n array h small k less =
     let below : k < n = omega (arith, length-take-le n array h) in omega (arith, getD-take n array k 0 below, small k below)
+
+-- an entry of a list of places is a place
+pub entry-within : (size : ℕ) (places : List ℕ) → Within size places → (i : ℕ) → List·Memᴰ i places → i < size
+entry-within size places within i h = let at = place-in i places h in omega (arith, within (placeIn i places) (at .0), at .1)
 
 -- a listed place is a place
 pub kept-within : (test : ℕ → Bool) (size : ℕ) (places : List ℕ) → places ≡ keep test (upTo size) → Within size places

@@ -44,6 +44,9 @@ unplaced place = record { vertex = place % 4294967296; distance = place / 429496
 unfoldable pub placedSeen : ℕ → ℕ → ℕ → ℕ
 placedSeen v x d = cond (ltb (x + d) FAR) (placed v (x + d)) 18446744073709551615
 
+unfoldable pub lesser : ℕ → ℕ → ℕ
+lesser a b = cond (ltb b a) b a
+
 -- An arrival.
 
 -- v at distance x is offered to `left` rows from `to` on, with the distances that stand from `at` on
@@ -73,6 +76,20 @@ anyNews any (i ∷ places) mem rows table size v = anyNews (isNews mem v (rows +
 unfoldable pub bringing : List ℕ → ℕ → ℕ → ℕ → List ℕ
 bringing mem rows size v = keep (λ i. eqb (sourceIn mem (rows + 4 * i) .vertex) v) (upTo size)
 
+-- the least of `best` and of these places, each under its source's distance
+unfoldable pub leadFrom : List ℕ → List ℕ → ℕ → ℕ → ℕ
+leadFrom [] mem rows best = best
+leadFrom (i ∷ places) mem rows best = leadFrom places mem rows (lesser best (placed i (sourceIn mem (rows + 4 * i) .distance)))
+
+-- a place whose source is the nearest of these
+abbrev pub lead : List ℕ → List ℕ → ℕ → ℕ
+lead places mem rows = leadFrom places mem rows (placed 0 FAR) % 4294967296
+
+-- these places, and such a one before them
+unfoldable pub led : List ℕ → List ℕ → ℕ → List ℕ
+led [] mem rows = []
+led (i ∷ places) mem rows = lead (i ∷ places) mem rows ∷ i ∷ places
+
 -- A departure.
 
 -- the places of the rows that show v
@@ -97,9 +114,6 @@ unkeyed key = cond (ltb key farKey) (record { vertex = key % 65536; distance = k
 -- the key of the source at a place
 abbrev pub sourceKey : List ℕ → ℕ → ℕ → ℕ
 sourceKey mem rows i = keyed (sourceIn mem (rows + 4 * i))
-
-unfoldable pub lesser : ℕ → ℕ → ℕ
-lesser a b = cond (ltb b a) b a
 
 -- the least of `best` and of these keys, each seen as much further on as stands so many words from `column`
 unfoldable pub gathered : List ℕ → List ℕ → List ℕ → ℕ → ℕ → ℕ
@@ -133,11 +147,11 @@ fits mem rows table size = leb (rows + 4 * size) (length mem) && leb (table + si
 
 -- the rows after v arrived (`is` true) or departed
 unfoldable pub changed : List ℕ → ℕ → ℕ → ℕ → ℕ → Bool → List ℕ
-changed mem rows table size v is = cond is (arrived (bringing mem rows size v) mem rows table size v) (departed mem rows table size v)
+changed mem rows table size v is = cond is (arrived (led (bringing mem rows size v) mem rows) mem rows table size v) (departed mem rows table size v)
 
 -- whether any row may have changed
 unfoldable pub touches : List ℕ → ℕ → ℕ → ℕ → ℕ → Bool → Bool
-touches mem rows table size v is = cond is (anyNews false (bringing mem rows size v) mem rows table size v) (ltb 0 (length (showing mem rows size v)))
+touches mem rows table size v is = cond is (anyNews false (led (bringing mem rows size v) mem rows) mem rows table size v) (ltb 0 (length (showing mem rows size v)))
 
 unfoldable pub refreshed : List ℕ → ℕ → ℕ → Bool → List ℕ
 refreshed mem p v is =

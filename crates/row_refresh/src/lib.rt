@@ -6,19 +6,21 @@ use cells::word;
 use rows::Row;
 ghost use mathlib.Core.Path.{_≡_};
 ghost use mathlib.Core.Bool.{true, false, _||_, cond};
-ghost use mathlib.Core.List.{map};
+ghost use mathlib.Core.List.{_∷_, map};
 ghost use Prim.Native.Nat.{ℕ, _+_, _*_, _/_, _%_, _≤_, _<_};
 ghost use lib.ListN.{length, take};
 ghost use Rattle.words.specs.Lists.{word};
-ghost use Rattle.row_refresh.specs.Model.{rowIn, shown, sourceIn, offeredTo, offered, placed, unplaced, placedSeen, spread, isNews, met, arrived, anyNews, bringing, showing, filled, keyed, farKey, unkeyed, sourceKey, lesser, gathered, renewed, departed, rowsHere, fits, changed, touches, refreshed, touched, refreshedUp, ownRow, vertexAt, switched};
+ghost use Rattle.row_refresh.specs.Model.{rowIn, shown, sourceIn, offeredTo, offered, placed, unplaced, placedSeen, spread, isNews, met, arrived, anyNews, bringing, lead, showing, filled, keyed, farKey, unkeyed, sourceKey, lesser, gathered, renewed, departed, rowsHere, fits, changed, touches, refreshed, touched, refreshedUp, ownRow, vertexAt, switched};
 ghost use Rattle.row_refresh.specs.Lists.{Within, Small, Steps, Renewable};
 
 const MOST_ROWS: usize = 128;
 
 const MOST_LEVELS: usize = 16;
 
-// The place of what is too far to be seen.
+// The places of what is too far to be seen, and of vertex 0 where it does not reach.
 const LAST_PLACE: u64 = 18446744073709551615;
+
+const FIRST_PLACE: u64 = 18446744069414584320;
 
 // The least key of what does not reach.
 const FAR_KEY: u64 = 281474976645120;
@@ -129,13 +131,21 @@ fn meet(
     any
 }
 
-// The sources of the rows at these places are met. Says whether any source was offered.
-fn meet_all(mem: &mut [u32], places: &[u32], rows: usize, table: usize, size: usize, v: u32) -> bool
+// The sources of the rows at these places are met. Says whether any source was offered, or `already` is true.
+fn meet_all(
+    mem: &mut [u32],
+    places: &[u32],
+    rows: usize,
+    table: usize,
+    size: usize,
+    v: u32,
+    already: bool,
+) -> bool
     requires { ⌜ (rows + 4 * size ≤ length (now mem)) × (table + size * size ≤ length (now mem)) × (size ≤ 128) × Within size (now places) ⌝ }
-    ensures { λ r. ⌜ (now (mem .exit) ≡ arrived (now (places .entry)) (now (mem .entry)) rows table size v) × (r ≡ anyNews false (now (places .entry)) (now (mem .entry)) rows table size v) ⌝ }
+    ensures { λ r. ⌜ (now (mem .exit) ≡ arrived (now (places .entry)) (now (mem .entry)) rows table size v) × (r ≡ anyNews already (now (places .entry)) (now (mem .entry)) rows table size v) ⌝ }
 {
     let n = places.len();
-    let mut any = false;
+    let mut any = already;
     let mut k = 0;
     while k < n {
         let i = wide(places[k]);
@@ -177,6 +187,33 @@ fn list_bringing(mem: &[u32], rows: usize, size: usize, v: u32, places: &mut [u3
     n
 }
 
+// Of these places one whose source is the nearest.
+fn lead_place(mem: &[u32], places: &[u32], rows: usize, size: usize) -> usize
+    requires { ⌜ (rows + 4 * size ≤ length (now mem)) × (size ≤ 128) × Within size (now places) ⌝ }
+    ensures { λ r. ⌜ r ≡ lead (now (places .entry)) (now (mem .entry)) rows ⌝ }
+{
+    let n = places.len();
+    let mut best = FIRST_PLACE;
+    let mut k = 0;
+    while k < n {
+        let i = places[k];
+        let s = source(mem, rows + 4 * wide(i));
+        best = lesser_of(best, place(i, s.distance));
+        k += 1;
+    }
+    (best % 4294967296) as usize
+}
+
+// The sources of the rows at these places are met, the nearest first: what it brings the others often need not bring again.
+fn meet_led(mem: &mut [u32], places: &[u32], rows: usize, table: usize, size: usize, v: u32) -> bool
+    requires { ⌜ (rows + 4 * size ≤ length (now mem)) × (table + size * size ≤ length (now mem)) × (size ≤ 128) × (0 < size) × Within size (now places) ⌝ }
+    ensures { λ r. ⌜ (now (mem .exit) ≡ arrived (lead (now (places .entry)) (now (mem .entry)) rows ∷ now (places .entry)) (now (mem .entry)) rows table size v) × (r ≡ anyNews false (lead (now (places .entry)) (now (mem .entry)) rows ∷ now (places .entry)) (now (mem .entry)) rows table size v) ⌝ }
+{
+    let i = lead_place(mem, places, rows, size);
+    let any = meet(mem, rows, size, v, rows + 4 * i, table + size * i, false);
+    meet_all(mem, places, rows, table, size, v, any)
+}
+
 // v arrived in a part with these rows and this table. Says whether any source was offered.
 fn arrive(mem: &mut [u32], rows: usize, table: usize, size: usize, v: u32) -> bool
     requires { ⌜ (rows + 4 * size ≤ length (now mem)) × (table + size * size ≤ length (now mem)) × (size ≤ 128) ⌝ }
@@ -184,7 +221,10 @@ fn arrive(mem: &mut [u32], rows: usize, table: usize, size: usize, v: u32) -> bo
 {
     let mut places = [0u32; 128];
     let n = list_bringing(mem, rows, size, v, &mut places);
-    meet_all(mem, &places[..n], rows, table, size, v)
+    if 0 < n {
+        return meet_led(mem, &places[..n], rows, table, size, v);
+    }
+    false
 }
 
 // The places of those of `size` rows that show v. Says how many there are.
@@ -220,7 +260,7 @@ fn key_seen(key: u64, d: u32) -> u64
     key + d as u64 * 65536
 }
 
-fn lesser_key(a: u64, b: u64) -> u64
+fn lesser_of(a: u64, b: u64) -> u64
     ensures { λ r. ⌜ r ≡ lesser a b ⌝ }
 {
     if b < a { b } else { a }
@@ -270,7 +310,7 @@ fn gather(mem: &[u32], keys: &[u64], steps: &[usize], column: usize) -> u64
     let mut k = 0;
     while k < n {
         let at = column + steps[k];
-        best = lesser_key(best, key_seen(keys[k], mem[at]));
+        best = lesser_of(best, key_seen(keys[k], mem[at]));
         k += 1;
     }
     best

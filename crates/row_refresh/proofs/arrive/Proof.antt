@@ -1,9 +1,8 @@
 -- `row_refresh::arrive` is `changed` for an arrival, and says `touches`.
-use Rattle.words.specs.Lists.{word}
 use Prim.Native.Nat.{_+_, _*_}
 use lib.Dec.{eqb}
 use Rattle.row_refresh.specs.Model.{sourceIn, bringing}
-use Rattle.row_refresh.proofs.Chain.{changed-arrived}
+use Rattle.row_refresh.proofs.Chain.{arrived-some, arrived-none}
 use Rattle.row_refresh.proofs.Listing.{listed-count, kept-within}
 use borrow.Author.Needs.{needs}
 use native.Mathlib.Omega.{arith}
@@ -19,27 +18,35 @@ list-bringing-requires c κs = search needs
 array-share-prefix-places : tie.Need-array-share-prefix-places
 array-share-prefix-places c = search needs
 
-slice-aggregate-meet-all : tie.Need-slice-aggregate-meet-all
-slice-aggregate-meet-all c =
-    let listed′ = c .before .before .before .list-bringing in
+slice-aggregate-meet-led : tie.Need-slice-aggregate-meet-led
+slice-aggregate-meet-led c =
+    let listed′ = c .before .before .before .before .list-bringing in
     listed-count (listed′ .result) (listed′ .last .1 .1 .1 .1 .0) (omega (arith, listed′ .kept .1 .1 .1 .1 .0))
 
-meet-all-requires : tie.Need-meet-all-requires
+meet-led-requires : tie.Need-meet-led-requires
 unfolding bringing
-meet-all-requires c κs =
-    let args′ = c .before .before .before .before .before .before .before .args in
-    let listed′ = c .before .before .before .list-bringing in
-    (search needs, search needs, search needs, kept-within (λ i. eqb (sourceIn (args′ .mem .now) (args′ .rows + 4 * i) .vertex) (args′ .v)) (args′ .size) _ (listed′ .ensures .1))
+meet-led-requires c κs =
+    let args′ = c .before .before .before .before .before .before .before .before .args in
+    let listed′ = c .before .before .before .before .list-bringing in
+    (search needs, search needs, search needs, omega (arith, listed′ .ensures .0), kept-within (λ i. eqb (sourceIn (args′ .mem .now) (args′ .rows + 4 * i) .vertex) (args′ .v)) (args′ .size) _ (listed′ .ensures .1))
 
 same-length : tie.Need-same-length
 same-length c = search needs
 
 returns : tie.Need-returns
 returns c =
-    let args′ = c .before .before .before .before .before .before .before .before .before .before .args in
-    let listed′ = c .before .before .before .before .before .before .list-bringing in
-    let meet-all′ = c .before .before .meet-all in
-    changed-arrived (args′ .mem .now) (args′ .rows) (args′ .table) (args′ .size) (args′ .v) _ _ _ (listed′ .ensures .1) (meet-all′ .ensures)
+    let args′ = c .before .before .before .before .before .before .before .before .before .before .before .args in
+    let listed′ = c .before .before .before .before .before .before .before .list-bringing in
+    arrived-some (args′ .mem .now) (args′ .rows) (args′ .table) (args′ .size) (args′ .v) _ (listed′ .ensures .1) _ _ (omega (arith, listed-count (listed′ .result) (listed′ .last .1 .1 .1 .1 .0) (omega (arith, listed′ .kept .1 .1 .1 .1 .0)))) (c .before .before .meet-led .ensures)
+
+same-length-2 : tie.Need-same-length-2
+same-length-2 c = search needs
+
+returns-2 : tie.Need-returns-2
+returns-2 c =
+    let args′ = c .before .before .before .before .before .before .args in
+    let listed′ = c .before .before .list-bringing in
+    arrived-none (args′ .mem .now) (args′ .rows) (args′ .table) (args′ .size) (args′ .v) _ (listed′ .ensures .1) (omega (arith, listed-count (listed′ .result) (listed′ .last .1 .1 .1 .1 .0) (omega (arith, listed′ .kept .1 .1 .1 .1 .0))))
 
 pub arrive-spec : {M : Type 1} → statement M
 arrive-spec =
@@ -48,7 +55,9 @@ arrive-spec =
     slice-aggregate-list-bringing
     list-bringing-requires
     array-share-prefix-places
-    slice-aggregate-meet-all
-    meet-all-requires
+    slice-aggregate-meet-led
+    meet-led-requires
     same-length
-    returns)
+    returns
+    same-length-2
+    returns-2)

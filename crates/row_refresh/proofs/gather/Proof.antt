@@ -42,8 +42,8 @@ shared-slice-read-key-seen-2 c = omega (arith, c .before .before .before .before
 key-seen-requires : tie.Need-key-seen-requires Inv-loop μ-loop
 key-seen-requires c κs = c .before .before .before .before .before .before .before .before .pre .small (c .before .before .before .before .loop .k) (omega arith)
 
-lesser-key-requires : tie.Need-lesser-key-requires Inv-loop μ-loop
-lesser-key-requires c κs = search needs
+lesser-of-requires : tie.Need-lesser-of-requires Inv-loop μ-loop
+lesser-of-requires c κs = search needs
 
 add-k : tie.Need-add-k Inv-loop μ-loop
 add-k c = search needs
@@ -55,7 +55,7 @@ loop-again : tie.Need-loop-again Inv-loop μ-loop
 loop-again c =
     let args′ = c .before .before .before .before .before .before .before .before .before .before .args in
     let loop′ = c .before .before .before .before .before .before .loop in
-    (omega arith, gathered-turn (args′ .keys .now) (args′ .steps .now) (args′ .mem .now) (args′ .column) (loop′ .k) (loop′ .best) _ _ (omega arith) (omega (arith, c .before .before .before .before .before .before .before .before .before .before .pre .long)) (c .before .key-seen .ensures) (c .lesser-key .ensures) ∙ loop′ .inv .1)
+    (omega arith, gathered-turn (args′ .keys .now) (args′ .steps .now) (args′ .mem .now) (args′ .column) (loop′ .k) (loop′ .best) _ _ (omega arith) (omega (arith, c .before .before .before .before .before .before .before .before .before .before .pre .long)) (c .before .key-seen .ensures) (c .lesser-of .ensures) ∙ loop′ .inv .1)
 
 returns : tie.Need-returns Inv-loop μ-loop
 returns c =
@@ -77,7 +77,7 @@ gather-spec =
     mul-key-seen-2
     shared-slice-read-key-seen-2
     key-seen-requires
-    lesser-key-requires
+    lesser-of-requires
     add-k
     loop-less
     loop-again

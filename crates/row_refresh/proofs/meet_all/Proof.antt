@@ -1,7 +1,6 @@
 -- `row_refresh::meet_all` is `arrived`, and says `anyNews`: what is left to meet from here stays the whole.
 use mathlib.Core.Path.{_≡_, refl, sym, _∙_, ap}
 use Prim.Native.Nat.{ℕ, _+_, _-_, _*_, _≤_, _<_}
-use mathlib.Core.Bool.{false}
 use lib.ListN.{length, drop}
 use Rattle.row_refresh.specs.Model.{arrived, anyNews}
 use Rattle.row_refresh.proofs.Chain.{arrived-turn, arrived-done, news-turn, news-done, line-within, square-most}
@@ -11,10 +10,10 @@ use Rattle.row_refresh.proofs.meet_all.Statement.{statement}
 use Rattle.row_refresh.proofs.meet_all.Tie as tie
 
 abbrev Inv-loop : tie.InvT-loop
-Inv-loop mem₀ places rows table size v n any₀ k₀ mem any k = (length mem ≡ length mem₀) × (k ≤ length places) × (arrived (drop k places) mem rows table size v ≡ arrived places mem₀ rows table size v) × (anyNews any (drop k places) mem rows table size v ≡ anyNews false places mem₀ rows table size v)
+Inv-loop mem₀ places rows table size v already n any₀ k₀ mem any k = (length mem ≡ length mem₀) × (k ≤ length places) × (arrived (drop k places) mem rows table size v ≡ arrived places mem₀ rows table size v) × (anyNews any (drop k places) mem rows table size v ≡ anyNews already places mem₀ rows table size v)
 
 abbrev μ-loop : tie.MeasureT-loop
-μ-loop mem₀ places rows table size v n any₀ k₀ mem any k = length places - k
+μ-loop mem₀ places rows table size v already n any₀ k₀ mem any k = length places - k
 
 loop-holds : tie.Need-loop-holds Inv-loop μ-loop
 loop-holds c = (refl, omega arith, refl, refl)
