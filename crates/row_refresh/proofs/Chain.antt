@@ -53,6 +53,24 @@ placed-row v d small =
     let b : (placed v d / 4294967296 ≡ d) = omega arith in
     λ t. record { vertex = a t; distance = b t }
 
+-- of two rows the one that comes before has the lesser
+pub placed-before : (a b : Row) → a .vertex < 4294967296 → b .vertex < 4294967296 → ltb (placed (a .vertex) (a .distance)) (placed (b .vertex) (b .distance)) ≡ comesBefore a b
+placed-before a b small small′ = by (decLt (placed (a .vertex) (a .distance)) (placed (b .vertex) (b .distance)))
+  where
+    before : placed (a .vertex) (a .distance) < placed (b .vertex) (b .distance) → Dec (a .distance < b .distance) → PairBefore (a .distance) (a .vertex) (b .distance) (b .vertex)
+    before less (yes nearer) = inl nearer
+    before less (no tie) = inr (omega (arith, tie), omega (arith, tie))
+
+    tie : placed (b .vertex) (b .distance) ≤ placed (a .vertex) (a .distance) → Dec (a .distance ≡ b .distance) → false ≡ (eqb (a .distance) (b .distance) && ltb (a .vertex) (b .vertex))
+    tie most (yes same) = rw (eq-eqb (a .distance) (b .distance) same, le-ltb (a .vertex) (b .vertex) (omega arith))
+    tie most (no other) = rw (ne-eqb (a .distance) (b .distance) other)
+
+    by : Dec (placed (a .vertex) (a .distance) < placed (b .vertex) (b .distance)) → ltb (placed (a .vertex) (a .distance)) (placed (b .vertex) (b .distance)) ≡ comesBefore a b
+    by (yes less) = lt-ltb (placed (a .vertex) (a .distance)) (placed (b .vertex) (b .distance)) less ∙ sym (pair-if (a .distance) (a .vertex) (b .distance) (b .vertex) (before less (decLt (a .distance) (b .distance))))
+    by (no most) =
+        le-ltb (placed (a .vertex) (a .distance)) (placed (b .vertex) (b .distance)) (omega (arith, most))
+        ∙ rw (le-ltb (a .distance) (b .distance) (omega (arith, most))) (tie (omega (arith, most)) (ℕ-discrete (a .distance) (b .distance)))
+
 -- An offer.
 module _ (v x d : ℕ) where
   pub seen-near : (out : ℕ) → d < FAR - x → out ≡ placed v (x + d) → out ≡ placedSeen v x d

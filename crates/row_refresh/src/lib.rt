@@ -10,6 +10,7 @@ ghost use mathlib.Core.List.{_∷_, map};
 ghost use Prim.Native.Nat.{ℕ, _+_, _*_, _/_, _%_, _≤_, _<_};
 ghost use lib.ListN.{length, take};
 ghost use Rattle.words.specs.Lists.{word};
+ghost use Rattle.rows.specs.Row.{comesBefore};
 ghost use Rattle.row_refresh.specs.Model.{rowIn, shown, sourceIn, offeredTo, offered, placed, unplaced, placedSeen, spread, isNews, met, arrived, anyNews, bringing, lead, showing, filled, keyed, farKey, unkeyed, sourceKey, lesser, gathered, renewed, departed, rowsHere, fits, changed, touches, refreshed, touched, refreshedUp, ownRow, vertexAt, switched};
 ghost use Rattle.row_refresh.specs.Lists.{Within, Small, Steps, Renewable};
 
@@ -108,6 +109,15 @@ fn spread_line(mem: &mut [u32], rows: usize, line: usize, size: usize, v: u32, x
     }
 }
 
+// Whether s comes before what the row at an address shows.
+fn comes_first(mem: &[u32], s: Row, row: usize) -> bool
+    requires { ⌜ row + 1 < length (now mem) ⌝ }
+    ensures { λ r. ⌜ r ≡ comesBefore s (rowIn (now (mem .entry)) row) ⌝ }
+{
+    let here = place(mem[row], mem[row + 1]);
+    place(s.vertex, s.distance) < here
+}
+
 // Where the source of a row shows v, and comes before what the row itself shows, it is offered to all rows of the part.
 fn meet(
     mem: &mut [u32],
@@ -123,7 +133,7 @@ fn meet(
 {
     let s = source(mem, row);
     if s.vertex == v {
-        if s.comes_before(row_at(mem, row)) {
+        if comes_first(mem, s, row) {
             spread_line(mem, rows, line, size, v, s.distance);
             return true;
         }
