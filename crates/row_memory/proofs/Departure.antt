@@ -32,9 +32,9 @@ pub departed-none : (mem : List ℕ) (rows table size v : ℕ) → ltb 0 (length
 unfolding departed renewed
 departed-none mem rows table size v none = by (showing mem rows size v) none
   where
-    by : (places : List ℕ) → ltb 0 (length places) ≡ false → renewed places mem (map (sourceKey mem rows) (filled mem rows size)) (map (λ i. size * i) (filled mem rows size)) rows table ≡ mem
+    by : (numbers : List ℕ) → ltb 0 (length numbers) ≡ false → renewed numbers mem (map (sourceKey mem rows) (filled mem rows size)) (map (λ i. size * i) (filled mem rows size)) rows table ≡ mem
     by [] e = refl
-    by (i ∷ places) e = absurd (true≢false (sym (lt-ltb 0 (length (i ∷ places)) (omega arith)) ∙ e))
+    by (i ∷ numbers) e = absurd (true≢false (sym (lt-ltb 0 (length (i ∷ numbers)) (omega arith)) ∙ e))
 
 module _ (rows size table : ℕ) (from : ℕ → Row) (far : ℕ → ℕ → ℕ) (fits : Fits size from) where
   abbrev seen : ℕ → ℕ → Row
@@ -45,15 +45,15 @@ module _ (rows size table : ℕ) (from : ℕ → Row) (far : ℕ → ℕ → ℕ
   anew j = met (seen j) (seen j) (λ n. true) emptyRow (countFrom 0 size)
 
   module _ (first after : List ℕ) (facts : Facts rows size table from far first) (j : ℕ) (entry : (i : ℕ) → i < size → word after (table + (size * i + j)) ≡ far i j) where
-    gathered-at : (places : List ℕ) → ((i : ℕ) → List·Memᴰ i places → i < size) → (row : Row) (key : ℕ) → KeyOf row key
-        → KeyOf (met (seen j) (seen j) (λ n. true) row places) (gathered (map (sourceKey first rows) places) (map (λ i. size * i) places) after (table + j) key)
+    gathered-at : (numbers : List ℕ) → ((i : ℕ) → List·Memᴰ i numbers → i < size) → (row : Row) (key : ℕ) → KeyOf row key
+        → KeyOf (met (seen j) (seen j) (λ n. true) row numbers) (gathered (map (sourceKey first rows) numbers) (map (λ i. size * i) numbers) after (table + j) key)
     unfolding gathered
     gathered-at [] within row key k = k
-    gathered-at (i ∷ places) within row key k =
-        subst⁻¹ (λ (n : ℕ). KeyOf (met (seen j) (seen j) (λ n. true) row (i ∷ places)) (gathered (map (sourceKey first rows) places) (map (λ i. size * i) places) after (table + j) (lesser key n))) same
-        (subst (λ (r : Row). KeyOf r (gathered (map (sourceKey first rows) places) (map (λ i. size * i) places) after (table + j) (lesser key (keyed (from i) + far i j * 65536))))
-        (met-turn (seen j) (seen j) (λ n. true) row i places)
-        (gathered-at places (λ n h. within n (List·Memᴰ·tail h)) (nearer (seen j i) row) (lesser key (keyed (from i) + far i j * 65536)) (key-nearer (from i) row (far i j) key (fits i hi) k)))
+    gathered-at (i ∷ numbers) within row key k =
+        subst⁻¹ (λ (n : ℕ). KeyOf (met (seen j) (seen j) (λ n. true) row (i ∷ numbers)) (gathered (map (sourceKey first rows) numbers) (map (λ i. size * i) numbers) after (table + j) (lesser key n))) same
+        (subst (λ (r : Row). KeyOf r (gathered (map (sourceKey first rows) numbers) (map (λ i. size * i) numbers) after (table + j) (lesser key (keyed (from i) + far i j * 65536))))
+        (met-turn (seen j) (seen j) (λ n. true) row i numbers)
+        (gathered-at numbers (λ n h. within n (List·Memᴰ·tail h)) (nearer (seen j i) row) (lesser key (keyed (from i) + far i j * 65536)) (key-nearer (from i) row (far i j) key (fits i hi) k)))
       where
         hi : i < size
         hi = within i (List·Memᴰ·head refl)
@@ -65,16 +65,16 @@ module _ (rows size table : ℕ) (from : ℕ → Row) (far : ℕ → ℕ → ℕ
         same t = keyed (facts .source i hi t) + (ap (word after) (place (size * i)) ∙ entry i hi) t * 65536
 
   -- the sources that are not empty are enough
-  met-plain : (j : ℕ) (places : List ℕ) → Plain (met (seen j) (seen j) (λ n. true) emptyRow places)
+  met-plain : (j : ℕ) (numbers : List ℕ) → Plain (met (seen j) (seen j) (λ n. true) emptyRow numbers)
   met-plain j [] = inl refl
-  met-plain j (i ∷ places) = nearer-plain (seen j i) (met (seen j) (seen j) (λ n. true) emptyRow places) (onward-plain (from i) (far i j)) (met-plain j places)
+  met-plain j (i ∷ numbers) = nearer-plain (seen j i) (met (seen j) (seen j) (λ n. true) emptyRow numbers) (onward-plain (from i) (far i j)) (met-plain j numbers)
 
   module _ (first : List ℕ) (facts : Facts rows size table from far first) where
     abbrev reaching : ℕ → Bool
     reaching i = ltb (sourceIn first (rows + 4 * i) .distance) FAR
 
-    place : (i : ℕ) → List·Memᴰ i (upTo size) → i < size
-    place i h = omega (arith, countFrom-below 0 size i h)
+    number : (i : ℕ) → List·Memᴰ i (upTo size) → i < size
+    number i h = omega (arith, countFrom-below 0 size i h)
 
     needless : (j i : ℕ) → List·Memᴰ i (upTo size) → reaching i ≡ false → (ys : List ℕ)
         → nearer (seen j i) (met (seen j) (seen j) (λ n. true) emptyRow ys) ≡ met (seen j) (seen j) (λ n. true) emptyRow ys
@@ -85,7 +85,7 @@ module _ (rows size table : ℕ) (from : ℕ → Row) (far : ℕ → ℕ → ℕ
         row = met (seen j) (seen j) (λ n. true) emptyRow ys
 
         none : ltb (from i .distance) FAR ≡ false
-        none = ap (λ (s : Row). ltb (s .distance) FAR) (sym (facts .source i (place i h))) ∙ e
+        none = ap (λ (s : Row). ltb (s .distance) FAR) (sym (facts .source i (number i h))) ∙ e
 
         by : Dec (from i .distance + far i j < FAR) → nearer (onward (from i) (far i j)) row ≡ row
         by (yes near) = absurd (true≢false (sym (lt-ltb (from i .distance) FAR (omega arith)) ∙ none))
@@ -95,7 +95,7 @@ module _ (rows size table : ℕ) (from : ℕ → Row) (far : ℕ → ℕ → ℕ
         → unkeyed (gathered (map (sourceKey first rows) (filled first rows size)) (map (λ i. size * i) (filled first rows size)) after (table + j) farKey) ≡ anew j
     unfolding filled
     made after j entry =
-        gathered-at first after facts j entry (keep reaching (upTo size)) (λ i h. place i (keep-says reaching (upTo size) i h .0)) emptyRow farKey key-none .shows
+        gathered-at first after facts j entry (keep reaching (upTo size)) (λ i h. number i (keep-says reaching (upTo size) i h .0)) emptyRow farKey key-none .shows
         ∙ met-kept (seen j) (seen j) (λ n. true) emptyRow reaching (upTo size) (needless j)
 
   -- what makes a row anew, whatever the part's own rows show

@@ -1,7 +1,7 @@
 -- What an arrival does to the rows of one part, in any memory whose words show the part's sources and its table.
 -- Assumes nothing.
 use mathlib.Core.Path.{_≡_, refl, sym, _∙_, ap, subst, subst⁻¹}
-use mathlib.Core.Logic.{inl, inr, ⊎-elim}
+use mathlib.Core.Logic.{⊎-elim}
 use mathlib.Core.Bool.{Bool, true, false, _&&_, _||_, cond, true≢false}
 use mathlib.Core.List.{List, [], _∷_, List·Memᴰ, List·Memᴰ·head, List·Memᴰ·tail, List·Memᴰ·cases-cons}
 use Prim.Native.Nat.{ℕ, zero, suc, _+_, _*_, _≤_, _<_}
@@ -189,17 +189,17 @@ module _ (rows size table : ℕ) (from : ℕ → Row) (far : ℕ → ℕ → ℕ
             (le-trans new there (onward here (far i j)) (nearer-is (seenFrom j n) there .right) (closed i j hi hj)))
             (nearer-is (seenFrom i n) here .one)
 
-    -- v arrived: the sources at these places were met
-    arrived-at : Triangle size far → (places : List ℕ) → ((i : ℕ) → List·Memᴰ i places → i < size) → (mem : List ℕ) → Ready rows size table from far mem → PlainRows mem → Closed mem
-        → Rows (λ j. met (seenFrom j) (seenFrom j) showsIt (rowIn mem (rows + 4 * j)) places) mem (arrived places mem rows table size v)
+    -- v arrived: the sources of the rows with these numbers were met
+    arrived-at : Triangle size far → (numbers : List ℕ) → ((i : ℕ) → List·Memᴰ i numbers → i < size) → (mem : List ℕ) → Ready rows size table from far mem → PlainRows mem → Closed mem
+        → Rows (λ j. met (seenFrom j) (seenFrom j) showsIt (rowIn mem (rows + 4 * j)) numbers) mem (arrived numbers mem rows table size v)
     unfolding arrived
     arrived-at triangle [] within mem ready plain closed = record { kept = kept-self rows size mem; shows = λ j h. refl }
-    arrived-at triangle (n ∷ places) within mem ready plain closed =
+    arrived-at triangle (n ∷ numbers) within mem ready plain closed =
         let hn = within n (List·Memᴰ·head refl) in
         let first = met-rows n hn mem (rows + 4 * n) (table + size * n) refl refl ready plain closed in
         let middle : List ℕ = metIn mem rows size v (rows + 4 * n) (table + size * n) in
         let rest =
-        arrived-at triangle places (λ i h. within i (List·Memᴰ·tail h)) middle (ready-kept (first .kept) ready)
+        arrived-at triangle numbers (λ i h. within i (List·Memᴰ·tail h)) middle (ready-kept (first .kept) ready)
         (λ j h. subst⁻¹ Plain (first .shows j h) (turned-plain j n (rowIn mem (rows + 4 * j)) (plain j h)))
         (turned-closed triangle n hn mem middle closed (first .shows))
         in
@@ -208,8 +208,8 @@ module _ (rows size table : ℕ) (from : ℕ → Row) (far : ℕ → ℕ → ℕ
           shows =
               λ j h.
               rest .shows j h
-              ∙ ap (λ (row : Row). met (seenFrom j) (seenFrom j) showsIt row places) (first .shows j h)
-              ∙ met-turn (seenFrom j) (seenFrom j) showsIt (rowIn mem (rows + 4 * j)) n places;
+              ∙ ap (λ (row : Row). met (seenFrom j) (seenFrom j) showsIt row numbers) (first .shows j h)
+              ∙ met-turn (seenFrom j) (seenFrom j) showsIt (rowIn mem (rows + 4 * j)) n numbers;
         }
 
     -- all sources that show v are, and the others change nothing
@@ -221,30 +221,30 @@ module _ (rows size table : ℕ) (from : ℕ → Row) (far : ℕ → ℕ → ℕ
         brings : ℕ → Bool
         brings i = eqb (sourceIn mem (rows + 4 * i) .vertex) v
 
-        place : (i : ℕ) → List·Memᴰ i (upTo size) → i < size
-        place i h = omega (arith, countFrom-below 0 size i h)
+        number : (i : ℕ) → List·Memᴰ i (upTo size) → i < size
+        number i h = omega (arith, countFrom-below 0 size i h)
 
         rowMet : ℕ → List ℕ → Row
         rowMet j = met (seenFrom j) (seenFrom j) showsIt (rowIn mem (rows + 4 * j))
 
         needless : (j i : ℕ) → List·Memᴰ i (upTo size) → brings i ≡ false → (ys : List ℕ) → turned j i (rowMet j ys) ≡ rowMet j ys
         needless j i h e ys =
-            ap (λ (b : Bool). cond b (nearer (seenFrom j i) (rowMet j ys)) (rowMet j ys)) (ap (λ (s : Row). eqb (s .vertex) v) (sym (ready .facts mem (kept-self rows size mem) .source i (place i h))) ∙ e)
+            ap (λ (b : Bool). cond b (nearer (seenFrom j i) (rowMet j ys)) (rowMet j ys)) (ap (λ (s : Row). eqb (s .vertex) v) (sym (ready .facts mem (kept-self rows size mem) .source i (number i h))) ∙ e)
 
         all-met : (j : ℕ) → rowMet j (keep brings (upTo size)) ≡ rowMet j (upTo size)
         all-met j = met-kept (seenFrom j) (seenFrom j) showsIt (rowIn mem (rows + 4 * j)) brings (upTo size) (needless j)
 
         within : (i : ℕ) → List·Memᴰ i (keep brings (upTo size)) → i < size
-        within i h = place i (keep-says brings (upTo size) i h .0)
+        within i h = number i (keep-says brings (upTo size) i h .0)
 
-        by : (places : List ℕ) → keep brings (upTo size) ≡ places → Rows (λ j. rowMet j (upTo size)) mem (arrived (led places mem rows) mem rows table size v)
+        by : (numbers : List ℕ) → keep brings (upTo size) ≡ numbers → Rows (λ j. rowMet j (upTo size)) mem (arrived (led numbers mem rows) mem rows table size v)
         by [] e = record { kept = kept-self rows size mem; shows = λ j h. ap (rowMet j) (sym e) ∙ all-met j }
-        by (n ∷ places) e =
-            let inside : (i : ℕ) → List·Memᴰ i (n ∷ places) → i < size = λ i h. within i (subst⁻¹ (λ (l : List ℕ). List·Memᴰ i l) e h) in
-            let first : ℕ = lead (n ∷ places) mem rows in
-            let hf : first < size = lead-within mem rows size few (omega (arith, inside n (List·Memᴰ·head refl))) (n ∷ places) inside in
+        by (n ∷ numbers) e =
+            let inside : (i : ℕ) → List·Memᴰ i (n ∷ numbers) → i < size = λ i h. within i (subst⁻¹ (λ (l : List ℕ). List·Memᴰ i l) e h) in
+            let first : ℕ = lead (n ∷ numbers) mem rows in
+            let hf : first < size = lead-within mem rows size few (omega (arith, inside n (List·Memᴰ·head refl))) (n ∷ numbers) inside in
             let done =
-            arrived-at triangle (first ∷ n ∷ places) (λ i h. ⊎-elim (λ same. subst⁻¹ (λ (k : ℕ). k < size) same hf) (inside i) (List·Memᴰ·cases-cons h)) mem ready plain closed
+            arrived-at triangle (first ∷ n ∷ numbers) (λ i h. ⊎-elim (λ same. subst⁻¹ (λ (k : ℕ). k < size) same hf) (inside i) (List·Memᴰ·cases-cons h)) mem ready plain closed
             in
             record {
               kept = done .kept;
@@ -255,28 +255,28 @@ module _ (rows size table : ℕ) (from : ℕ → Row) (far : ℕ → ℕ → ℕ
                   ∙ met-again (seenFrom j) (seenFrom j) showsIt (rowIn mem (rows + 4 * j)) first (upTo size) (upTo-has size first hf);
             }
 
-    news-kept : (places mem : List ℕ) → anyNews true places mem rows table size v ≡ true
+    news-kept : (numbers mem : List ℕ) → anyNews true numbers mem rows table size v ≡ true
     unfolding anyNews
     news-kept [] mem = refl
-    news-kept (i ∷ places) mem = by (isNews mem v (rows + 4 * i)) (news-kept places (metIn mem rows size v (rows + 4 * i) (table + size * i)))
+    news-kept (i ∷ numbers) mem = by (isNews mem v (rows + 4 * i)) (news-kept numbers (metIn mem rows size v (rows + 4 * i) (table + size * i)))
       where
         next : List ℕ
         next = metIn mem rows size v (rows + 4 * i) (table + size * i)
 
-        by : (b : Bool) → anyNews true places next rows table size v ≡ true → anyNews (b || true) places next rows table size v ≡ true
+        by : (b : Bool) → anyNews true numbers next rows table size v ≡ true → anyNews (b || true) numbers next rows table size v ≡ true
         by true later = later
         by false later = later
 
     -- No source was offered: the memory is as it was.
-    pub arrived-none : (places mem : List ℕ) → anyNews false places mem rows table size v ≡ false → arrived places mem rows table size v ≡ mem
+    pub arrived-none : (numbers mem : List ℕ) → anyNews false numbers mem rows table size v ≡ false → arrived numbers mem rows table size v ≡ mem
     unfolding arrived anyNews metIn
     arrived-none [] mem e = refl
-    arrived-none (i ∷ places) mem e = by (isNews mem v (rows + 4 * i)) refl e (arrived-none places mem)
+    arrived-none (i ∷ numbers) mem e = by (isNews mem v (rows + 4 * i)) refl e (arrived-none numbers mem)
       where
         spreads : List ℕ
         spreads = spread size mem rows (table + size * i) v (sourceIn mem (rows + 4 * i) .distance)
 
-        by : (b : Bool) → isNews mem v (rows + 4 * i) ≡ b → anyNews (b || false) places (cond b spreads mem) rows table size v ≡ false
-            → (anyNews false places mem rows table size v ≡ false → arrived places mem rows table size v ≡ mem) → arrived places (cond b spreads mem) rows table size v ≡ mem
-        by true f g later = absurd (true≢false (sym (news-kept places spreads) ∙ g))
+        by : (b : Bool) → isNews mem v (rows + 4 * i) ≡ b → anyNews (b || false) numbers (cond b spreads mem) rows table size v ≡ false
+            → (anyNews false numbers mem rows table size v ≡ false → arrived numbers mem rows table size v ≡ mem) → arrived numbers (cond b spreads mem) rows table size v ≡ mem
+        by true f g later = absurd (true≢false (sym (news-kept numbers spreads) ∙ g))
         by false f g later = later g

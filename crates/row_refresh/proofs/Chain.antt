@@ -19,15 +19,8 @@ use Rattle.rows.specs.declared.Row.{Row}
 use Rattle.rows.specs.Row.{emptyRow, comesBefore}
 use Rattle.row_refresh.specs.Model.{rowIn, shown, sourceIn, improves, offeredTo, offered, placed, unplaced, placedSeen, spread, isNews, met, arrived, anyNews, bringing, leadFrom, lead, led, showing, filled, farKey, unkeyed, sourceKey, lesser, gathered, renewed, departed, partAt, rowsHere, fits, changed, touches, refreshed, touched, refreshedUp, vertexAt, ownRow, switched}
 
--- one line less of a table
-pub line-less : (size left n : ℕ) → left ≡ suc n → size * left ≡ size * n + size
-line-less size left n e = ap (λ (k : ℕ). size * k) e ∙ mul-suc size n
-
 pub square-most : (n : ℕ) → n ≤ 128 → n * n ≤ 16384
 square-most n h = omega (arith, mul-le-mul-left {m = n} {n = 128} n h)
-
-pub times-most : (w n : ℕ) → n ≤ 128 → w * n ≤ w * 128
-times-most w n h = mul-le-mul-left {m = n} {n = 128} w h
 
 -- a line of a table
 pub line-within : (size i : ℕ) → i < size → size * i + size ≤ size * size
@@ -148,46 +141,46 @@ module _ (mem : List ℕ) (v row : ℕ) (s : Row) (e : s ≡ sourceIn mem row) w
     unfolding met
     met-no none = (rw none, rw none)
 
-module _ (places : List ℕ) (k : ℕ) (h : k < length places) (mem end : List ℕ) (rows table size v i : ℕ) (p : i ≡ getD places k 0) (q : end ≡ met mem rows size v (rows + 4 * i) (table + size * i)) where
-  pub arrived-turn : arrived (drop (k + 1) places) end rows table size v ≡ arrived (drop k places) mem rows table size v
+module _ (numbers : List ℕ) (k : ℕ) (h : k < length numbers) (mem end : List ℕ) (rows table size v i : ℕ) (p : i ≡ getD numbers k 0) (q : end ≡ met mem rows size v (rows + 4 * i) (table + size * i)) where
+  pub arrived-turn : arrived (drop (k + 1) numbers) end rows table size v ≡ arrived (drop k numbers) mem rows table size v
   unfolding arrived
   arrived-turn =
-      (λ t. arrived (drop (add-one k t) places) ((q ∙ ap (λ (j : ℕ). met mem rows size v (rows + 4 * j) (table + size * j)) p) t) rows table size v)
-      ∙ ap (λ (l : List ℕ). arrived l mem rows table size v) (sym (drop-cons places k 0 h))
+      (λ t. arrived (drop (add-one k t) numbers) ((q ∙ ap (λ (j : ℕ). met mem rows size v (rows + 4 * j) (table + size * j)) p) t) rows table size v)
+      ∙ ap (λ (l : List ℕ). arrived l mem rows table size v) (sym (drop-cons numbers k 0 h))
 
-  pub news-turn : (any now : Bool) → now ≡ (isNews mem v (rows + 4 * i) || any) → anyNews now (drop (k + 1) places) end rows table size v ≡ anyNews any (drop k places) mem rows table size v
+  pub news-turn : (any now : Bool) → now ≡ (isNews mem v (rows + 4 * i) || any) → anyNews now (drop (k + 1) numbers) end rows table size v ≡ anyNews any (drop k numbers) mem rows table size v
   unfolding anyNews
   news-turn any now r =
-      (λ t. anyNews ((r ∙ ap (λ (j : ℕ). isNews mem v (rows + 4 * j) || any) p) t) (drop (add-one k t) places) ((q ∙ ap (λ (j : ℕ). met mem rows size v (rows + 4 * j) (table + size * j)) p) t) rows table size v)
-      ∙ ap (λ (l : List ℕ). anyNews any l mem rows table size v) (sym (drop-cons places k 0 h))
+      (λ t. anyNews ((r ∙ ap (λ (j : ℕ). isNews mem v (rows + 4 * j) || any) p) t) (drop (add-one k t) numbers) ((q ∙ ap (λ (j : ℕ). met mem rows size v (rows + 4 * j) (table + size * j)) p) t) rows table size v)
+      ∙ ap (λ (l : List ℕ). anyNews any l mem rows table size v) (sym (drop-cons numbers k 0 h))
 
-module _ (places : List ℕ) (k : ℕ) (h : length places ≤ k) (mem : List ℕ) (rows table size v : ℕ) where
-  pub arrived-done : arrived (drop k places) mem rows table size v ≡ mem
+module _ (numbers : List ℕ) (k : ℕ) (h : length numbers ≤ k) (mem : List ℕ) (rows table size v : ℕ) where
+  pub arrived-done : arrived (drop k numbers) mem rows table size v ≡ mem
   unfolding arrived
-  arrived-done = ap (λ (l : List ℕ). arrived l mem rows table size v) (drop-of-length-le places h)
+  arrived-done = ap (λ (l : List ℕ). arrived l mem rows table size v) (drop-of-length-le numbers h)
 
-  pub news-done : (any : Bool) → anyNews any (drop k places) mem rows table size v ≡ any
+  pub news-done : (any : Bool) → anyNews any (drop k numbers) mem rows table size v ≡ any
   unfolding anyNews
-  news-done any = ap (λ (l : List ℕ). anyNews any l mem rows table size v) (drop-of-length-le places h)
+  news-done any = ap (λ (l : List ℕ). anyNews any l mem rows table size v) (drop-of-length-le numbers h)
 
--- The place that leads.
+-- The number of a row whose source is the nearest.
 module _ (mem : List ℕ) (rows : ℕ) where
-  pub lead-turn : (places : List ℕ) (k i place best next : ℕ) (s : Row) → k < length places → i ≡ getD places k 0 → s ≡ sourceIn mem (rows + 4 * i) → place ≡ placed (getD places k 0) (s .distance) → next ≡ lesser best place
-      → leadFrom (drop (k + 1) places) mem rows next ≡ leadFrom (drop k places) mem rows best
+  pub lead-turn : (numbers : List ℕ) (k i place best next : ℕ) (s : Row) → k < length numbers → i ≡ getD numbers k 0 → s ≡ sourceIn mem (rows + 4 * i) → place ≡ placed (getD numbers k 0) (s .distance) → next ≡ lesser best place
+      → leadFrom (drop (k + 1) numbers) mem rows next ≡ leadFrom (drop k numbers) mem rows best
   unfolding leadFrom
-  lead-turn places k i place best next s h p q r e =
-      (λ t. leadFrom (drop (add-one k t) places) mem rows ((e ∙ ap (lesser best) (r ∙ ap (λ (x : Row). placed (getD places k 0) (x .distance)) (q ∙ ap (λ (j : ℕ). sourceIn mem (rows + 4 * j)) p))) t))
-      ∙ ap (λ (l : List ℕ). leadFrom l mem rows best) (sym (drop-cons places k 0 h))
+  lead-turn numbers k i place best next s h p q r e =
+      (λ t. leadFrom (drop (add-one k t) numbers) mem rows ((e ∙ ap (lesser best) (r ∙ ap (λ (x : Row). placed (getD numbers k 0) (x .distance)) (q ∙ ap (λ (j : ℕ). sourceIn mem (rows + 4 * j)) p))) t))
+      ∙ ap (λ (l : List ℕ). leadFrom l mem rows best) (sym (drop-cons numbers k 0 h))
 
-  pub lead-done : (places : List ℕ) (k best : ℕ) → length places ≤ k → leadFrom (drop k places) mem rows best ≡ best
+  pub lead-done : (numbers : List ℕ) (k best : ℕ) → length numbers ≤ k → leadFrom (drop k numbers) mem rows best ≡ best
   unfolding leadFrom
-  lead-done places k best h = ap (λ (l : List ℕ). leadFrom l mem rows best) (drop-of-length-le places h)
+  lead-done numbers k best h = ap (λ (l : List ℕ). leadFrom l mem rows best) (drop-of-length-le numbers h)
 
-  -- it is one of the places
-  lead-from : (size : ℕ) → size ≤ 128 → (places : List ℕ) → ((i : ℕ) → List·Memᴰ i places → i < size) → (best : ℕ) → best % 4294967296 < size → leadFrom places mem rows best % 4294967296 < size
+  -- it is one of these, or 0
+  lead-from : (size : ℕ) → size ≤ 128 → (numbers : List ℕ) → ((i : ℕ) → List·Memᴰ i numbers → i < size) → (best : ℕ) → best % 4294967296 < size → leadFrom numbers mem rows best % 4294967296 < size
   unfolding leadFrom lesser
   lead-from size few [] within best h = h
-  lead-from size few (i ∷ places) within best h = lead-from size few places (λ j k. within j (List·Memᴰ·tail k)) (cond (ltb new best) new best) (by (ltb new best))
+  lead-from size few (i ∷ numbers) within best h = lead-from size few numbers (λ j k. within j (List·Memᴰ·tail k)) (cond (ltb new best) new best) (by (ltb new best))
     where
       d : ℕ
       d = sourceIn mem (rows + 4 * i) .distance
@@ -202,20 +195,20 @@ module _ (mem : List ℕ) (rows : ℕ) where
       by true = here
       by false = h
 
-  pub lead-within : (size : ℕ) → size ≤ 128 → 0 < size → (places : List ℕ) → ((i : ℕ) → List·Memᴰ i places → i < size) → lead places mem rows < size
-  lead-within size few some places within = lead-from size few places within (placed 0 FAR) some
+  pub lead-within : (size : ℕ) → size ≤ 128 → 0 < size → (numbers : List ℕ) → ((i : ℕ) → List·Memᴰ i numbers → i < size) → lead numbers mem rows < size
+  lead-within size few some numbers within = lead-from size few numbers within (placed 0 FAR) some
 
-pub led-arrived : (places mem middle end : List ℕ) (rows table size v i : ℕ) (any after : Bool) → i ≡ lead places mem rows
+pub led-arrived : (numbers mem middle end : List ℕ) (rows table size v i : ℕ) (any after : Bool) → i ≡ lead numbers mem rows
     → (middle ≡ met mem rows size v (rows + 4 * i) (table + size * i)) × (any ≡ (isNews mem v (rows + 4 * i) || false))
-    → (end ≡ arrived places middle rows table size v) × (after ≡ anyNews any places middle rows table size v)
-    → (end ≡ arrived (lead places mem rows ∷ places) mem rows table size v) × (after ≡ anyNews false (lead places mem rows ∷ places) mem rows table size v)
+    → (end ≡ arrived numbers middle rows table size v) × (after ≡ anyNews any numbers middle rows table size v)
+    → (end ≡ arrived (lead numbers mem rows ∷ numbers) mem rows table size v) × (after ≡ anyNews false (lead numbers mem rows ∷ numbers) mem rows table size v)
 unfolding arrived anyNews
-led-arrived places mem middle end rows table size v i any after p q r = (
-  r .0 ∙ ap (λ (l : List ℕ). arrived places l rows table size v) (q .0 ∙ first),
-  r .1 ∙ λ t. anyNews ((q .1 ∙ ap (λ (j : ℕ). isNews mem v (rows + 4 * j) || false) p) t) places ((q .0 ∙ first) t) rows table size v,
+led-arrived numbers mem middle end rows table size v i any after p q r = (
+  r .0 ∙ ap (λ (l : List ℕ). arrived numbers l rows table size v) (q .0 ∙ first),
+  r .1 ∙ λ t. anyNews ((q .1 ∙ ap (λ (j : ℕ). isNews mem v (rows + 4 * j) || false) p) t) numbers ((q .0 ∙ first) t) rows table size v,
 )
   where
-    first : met mem rows size v (rows + 4 * i) (table + size * i) ≡ met mem rows size v (rows + 4 * lead places mem rows) (table + size * lead places mem rows)
+    first : met mem rows size v (rows + 4 * i) (table + size * i) ≡ met mem rows size v (rows + 4 * lead numbers mem rows) (table + size * lead numbers mem rows)
     first = ap (λ (j : ℕ). met mem rows size v (rows + 4 * j) (table + size * j)) p
 
 -- A key.
@@ -247,58 +240,58 @@ pub gathered-done : (keys steps mem : List ℕ) (column k best : ℕ) → length
 unfolding gathered
 gathered-done keys steps mem column k best h = ap (λ (l : List ℕ). gathered l (drop k steps) mem column best) (drop-of-length-le keys h)
 
-pub renewed-turn : (places mem end keys steps : List ℕ) (rows table k i best : ℕ) (row : Row) → k < length places → i ≡ getD places k 0 → best ≡ gathered keys steps mem (table + i) farKey → row ≡ unkeyed best
-    → end ≡ shown mem (rows + 4 * i) row → renewed (drop (k + 1) places) end keys steps rows table ≡ renewed (drop k places) mem keys steps rows table
+pub renewed-turn : (numbers mem end keys steps : List ℕ) (rows table k i best : ℕ) (row : Row) → k < length numbers → i ≡ getD numbers k 0 → best ≡ gathered keys steps mem (table + i) farKey → row ≡ unkeyed best
+    → end ≡ shown mem (rows + 4 * i) row → renewed (drop (k + 1) numbers) end keys steps rows table ≡ renewed (drop k numbers) mem keys steps rows table
 unfolding renewed
-renewed-turn places mem end keys steps rows table k i best row h p q r s =
-    (λ t. renewed (drop (add-one k t) places) ((s ∙ ap (shown mem (rows + 4 * i)) (r ∙ ap unkeyed q) ∙ ap (λ (j : ℕ). shown mem (rows + 4 * j) (unkeyed (gathered keys steps mem (table + j) farKey))) p) t) keys steps rows table)
-    ∙ ap (λ (l : List ℕ). renewed l mem keys steps rows table) (sym (drop-cons places k 0 h))
+renewed-turn numbers mem end keys steps rows table k i best row h p q r s =
+    (λ t. renewed (drop (add-one k t) numbers) ((s ∙ ap (shown mem (rows + 4 * i)) (r ∙ ap unkeyed q) ∙ ap (λ (j : ℕ). shown mem (rows + 4 * j) (unkeyed (gathered keys steps mem (table + j) farKey))) p) t) keys steps rows table)
+    ∙ ap (λ (l : List ℕ). renewed l mem keys steps rows table) (sym (drop-cons numbers k 0 h))
 
-pub renewed-done : (places mem keys steps : List ℕ) (rows table k : ℕ) → length places ≤ k → renewed (drop k places) mem keys steps rows table ≡ mem
+pub renewed-done : (numbers mem keys steps : List ℕ) (rows table k : ℕ) → length numbers ≤ k → renewed (drop k numbers) mem keys steps rows table ≡ mem
 unfolding renewed
-renewed-done places mem keys steps rows table k h = ap (λ (l : List ℕ). renewed l mem keys steps rows table) (drop-of-length-le places h)
+renewed-done numbers mem keys steps rows table k h = ap (λ (l : List ℕ). renewed l mem keys steps rows table) (drop-of-length-le numbers h)
 
 -- One part.
 module _ (mem : List ℕ) (rows table size v : ℕ) where
-  module _ (places : List ℕ) (e : places ≡ bringing mem rows size v) where
-    pub arrived-some : (end : List ℕ) (any : Bool) → 0 < length places
-        → (end ≡ arrived (lead places mem rows ∷ places) mem rows table size v) × (any ≡ anyNews false (lead places mem rows ∷ places) mem rows table size v)
+  module _ (numbers : List ℕ) (e : numbers ≡ bringing mem rows size v) where
+    pub arrived-some : (end : List ℕ) (any : Bool) → 0 < length numbers
+        → (end ≡ arrived (lead numbers mem rows ∷ numbers) mem rows table size v) × (any ≡ anyNews false (lead numbers mem rows ∷ numbers) mem rows table size v)
         → (end ≡ changed mem rows table size v true) × (any ≡ touches mem rows table size v true)
     unfolding changed touches led
     arrived-some end any some h = (
-      h .0 ∙ ap (λ (l : List ℕ). arrived l mem rows table size v) (led-some places some ∙ ap (λ (l : List ℕ). led l mem rows) e),
-      h .1 ∙ ap (λ (l : List ℕ). anyNews false l mem rows table size v) (led-some places some ∙ ap (λ (l : List ℕ). led l mem rows) e),
+      h .0 ∙ ap (λ (l : List ℕ). arrived l mem rows table size v) (led-some numbers some ∙ ap (λ (l : List ℕ). led l mem rows) e),
+      h .1 ∙ ap (λ (l : List ℕ). anyNews false l mem rows table size v) (led-some numbers some ∙ ap (λ (l : List ℕ). led l mem rows) e),
     )
       where
         led-some : (l : List ℕ) → 0 < length l → lead l mem rows ∷ l ≡ led l mem rows
         led-some [] some = absurd (omega arith)
         led-some (i ∷ l) some = refl
 
-    pub arrived-none : length places ≤ 0 → (mem ≡ changed mem rows table size v true) × (false ≡ touches mem rows table size v true)
+    pub arrived-none : length numbers ≤ 0 → (mem ≡ changed mem rows table size v true) × (false ≡ touches mem rows table size v true)
     unfolding changed touches led arrived anyNews
     arrived-none none = (
-      ap (λ (l : List ℕ). arrived (led l mem rows) mem rows table size v) (sym (drop-of-length-le places none) ∙ e),
-      ap (λ (l : List ℕ). anyNews false (led l mem rows) mem rows table size v) (sym (drop-of-length-le places none) ∙ e),
+      ap (λ (l : List ℕ). arrived (led l mem rows) mem rows table size v) (sym (drop-of-length-le numbers none) ∙ e),
+      ap (λ (l : List ℕ). anyNews false (led l mem rows) mem rows table size v) (sym (drop-of-length-le numbers none) ∙ e),
     )
 
   pub changed-as : (is was : Bool) (end : List ℕ) (any : Bool) → is ≡ was → (end ≡ changed mem rows table size v was) × (any ≡ touches mem rows table size v was)
       → (end ≡ changed mem rows table size v is) × (any ≡ touches mem rows table size v is)
   changed-as is was end any e h = rw e h
 
-  module _ (places : List ℕ) (e : places ≡ showing mem rows size v) where
-    pub departed-none : length places ≤ 0 → (mem ≡ changed mem rows table size v false) × (false ≡ touches mem rows table size v false)
+  module _ (numbers : List ℕ) (e : numbers ≡ showing mem rows size v) where
+    pub departed-none : length numbers ≤ 0 → (mem ≡ changed mem rows table size v false) × (false ≡ touches mem rows table size v false)
     unfolding changed touches departed renewed
     departed-none none = (
-      ap (λ (l : List ℕ). renewed l mem (map (sourceKey mem rows) (filled mem rows size)) (map (λ i. size * i) (filled mem rows size)) rows table) (sym (drop-of-length-le places none) ∙ e),
-      sym (le-ltb 0 (length places) none) ∙ ap (λ (l : List ℕ). ltb 0 (length l)) e,
+      ap (λ (l : List ℕ). renewed l mem (map (sourceKey mem rows) (filled mem rows size)) (map (λ i. size * i) (filled mem rows size)) rows table) (sym (drop-of-length-le numbers none) ∙ e),
+      sym (le-ltb 0 (length numbers) none) ∙ ap (λ (l : List ℕ). ltb 0 (length l)) e,
     )
 
-    pub departed-some : (end : List ℕ) → 0 < length places → end ≡ renewed places mem (map (sourceKey mem rows) (filled mem rows size)) (map (λ i. size * i) (filled mem rows size)) rows table
+    pub departed-some : (end : List ℕ) → 0 < length numbers → end ≡ renewed numbers mem (map (sourceKey mem rows) (filled mem rows size)) (map (λ i. size * i) (filled mem rows size)) rows table
         → (end ≡ changed mem rows table size v false) × (true ≡ touches mem rows table size v false)
     unfolding changed touches departed
     departed-some end some h = (
       h ∙ ap (λ (l : List ℕ). renewed l mem (map (sourceKey mem rows) (filled mem rows size)) (map (λ i. size * i) (filled mem rows size)) rows table) e,
-      sym (lt-ltb 0 (length places) some) ∙ ap (λ (l : List ℕ). ltb 0 (length l)) e,
+      sym (lt-ltb 0 (length numbers) some) ∙ ap (λ (l : List ℕ). ltb 0 (length l)) e,
     )
 
 -- A part's record.

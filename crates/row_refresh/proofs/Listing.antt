@@ -1,10 +1,9 @@
--- Lists written entry by entry: each entry is written, and counts if it passes a test. So are a part's places and sources listed.
+-- Lists written entry by entry: each entry is written, and counts if it passes a test. So are the numbers of a part's rows, and its sources, listed.
 -- Assumes nothing.
 use mathlib.Core.Path.{_≡_, refl, sym, _∙_, ap, subst, subst⁻¹}
-use mathlib.Core.Logic.{_≢_}
 use mathlib.Core.Bool.{Bool, true, false, cond}
 use mathlib.Core.List.{List, [], _∷_, _++_, map, append-assoc, append-nil, List·Memᴰ}
-use Prim.Native.Nat.{ℕ, zero, suc, _+_, _-_, _*_, _≤_, _<_}
+use Prim.Native.Nat.{ℕ, suc, _+_, _-_, _*_, _≤_, _<_}
 use native.Mathlib.Decide.{ℕ-discrete}
 use native.Mathlib.Nat.{mul-suc, mul-le-mul-left}
 use native.Mathlib.Numerals.{add-one}
@@ -14,7 +13,7 @@ use lib.Seq.{take-suc-set, take-set-le, length-take-le, getD-take, getD-set-same
 use Rattle.words.specs.Lists.{word, upTo, countFrom, keep, placeIn}
 use Rattle.words.proofs.Lists.{countFrom-below, keep-says, map-at, place-in}
 use Rattle.words.proofs.Places.{entry-in}
-use Rattle.row_refresh.specs.Lists.{Within, Small, Steps, Renewable}
+use Rattle.row_refresh.specs.Lists.{Within, Small, Renewable}
 
 map-same : (xs : List ℕ) → map (λ i. i) xs ≡ xs
 map-same [] = refl
@@ -47,8 +46,8 @@ module _ (test : ℕ → Bool) (array : List ℕ) (left k i n next x : ℕ) (is 
           ∙ ap (λ (l : List ℕ). l ++ map f later) (take-set-le n array n x (omega arith))
           ∙ rest false t
 
-  pub places-turn : x ≡ i → take next (set array n x) ++ keep test (countFrom (i + 1) k) ≡ take n array ++ keep test (countFrom i left)
-  places-turn p =
+  pub numbers-turn : x ≡ i → take next (set array n x) ++ keep test (countFrom (i + 1) k) ≡ take n array ++ keep test (countFrom i left)
+  numbers-turn p =
       ap (λ (l : List ℕ). take next (set array n x) ++ l) (sym (map-same (keep test (countFrom (i + 1) k))))
       ∙ listed-turn (λ j. j) p
       ∙ ap (λ (l : List ℕ). take n array ++ l) (map-same (keep test (countFrom i left)))
@@ -57,8 +56,8 @@ module _ (test : ℕ → Bool) (array whole : List ℕ) (left i n : ℕ) (none :
   pub listed-done : (f : ℕ → ℕ) → take n array ++ map f (keep test (countFrom i left)) ≡ whole → take n array ≡ whole
   listed-done f e = sym (append-nil (take n array)) ∙ ap (λ (l : ℕ). take n array ++ map f (keep test (countFrom i l))) (let z : 0 ≡ left = omega arith in z) ∙ e
 
-  pub places-done : take n array ++ keep test (countFrom i left) ≡ whole → take n array ≡ whole
-  places-done e = sym (append-nil (take n array)) ∙ ap (λ (l : ℕ). take n array ++ keep test (countFrom i l)) (let z : 0 ≡ left = omega arith in z) ∙ e
+  pub numbers-done : take n array ++ keep test (countFrom i left) ≡ whole → take n array ≡ whole
+  numbers-done e = sym (append-nil (take n array)) ∙ ap (λ (l : ℕ). take n array ++ keep test (countFrom i l)) (let z : 0 ≡ left = omega arith in z) ∙ e
 
 -- the next line of a table starts a line further on
 pub step-turn : (size i step : ℕ) → step ≡ size * i → step + size ≡ size * (i + 1)
@@ -80,19 +79,19 @@ pub small-listed : (n : ℕ) (array : List ℕ) → n ≤ length array → Small
 small-listed n array h small k less =
     let below : k < n = omega (arith, length-take-le n array h) in omega (arith, getD-take n array k 0 below, small k below)
 
--- an entry of a list of places is a place
-pub entry-within : (size : ℕ) (places : List ℕ) → Within size places → (i : ℕ) → List·Memᴰ i places → i < size
-entry-within size places within i h = let at = place-in i places h in omega (arith, within (placeIn i places) (at .0), at .1)
+-- an entry of a list of rows' numbers is one
+pub entry-within : (size : ℕ) (numbers : List ℕ) → Within size numbers → (i : ℕ) → List·Memᴰ i numbers → i < size
+entry-within size numbers within i h = let at = place-in i numbers h in omega (arith, within (placeIn i numbers) (at .0), at .1)
 
--- a listed place is a place
-pub kept-within : (test : ℕ → Bool) (size : ℕ) (places : List ℕ) → places ≡ keep test (upTo size) → Within size places
-kept-within test size places e k h =
-    omega (arith, countFrom-below 0 size (word places k) (keep-says test (upTo size) (word places k) (subst (λ (l : List ℕ). List·Memᴰ (word places k) l) e (entry-in places k 0 h)) .0))
+-- a listed number is one of a row
+pub kept-within : (test : ℕ → Bool) (size : ℕ) (numbers : List ℕ) → numbers ≡ keep test (upTo size) → Within size numbers
+kept-within test size numbers e k h =
+    omega (arith, countFrom-below 0 size (word numbers k) (keep-says test (upTo size) (word numbers k) (subst (λ (l : List ℕ). List·Memᴰ (word numbers k) l) e (entry-in numbers k 0 h)) .0))
 
--- the rows at places of a part, and the steps of its sources, lie within the memory
-pub renewable : (test : ℕ → Bool) (long size rows table : ℕ) (places keys steps : List ℕ) (f : ℕ → ℕ) → rows + 4 * size ≤ long → table + size * size ≤ long → Within size places
-    → keys ≡ map f (keep test (upTo size)) → steps ≡ map (λ i. size * i) (keep test (upTo size)) → Small (length keys) keys → Renewable long places keys steps rows table
-renewable test long size rows table places keys steps f fits fits-table within p q small =
+-- the rows with these numbers, and the steps of the part's sources, lie within the memory
+pub renewable : (test : ℕ → Bool) (long size rows table : ℕ) (numbers keys steps : List ℕ) (f : ℕ → ℕ) → rows + 4 * size ≤ long → table + size * size ≤ long → Within size numbers
+    → keys ≡ map f (keep test (upTo size)) → steps ≡ map (λ i. size * i) (keep test (upTo size)) → Small (length keys) keys → Renewable long numbers keys steps rows table
+renewable test long size rows table numbers keys steps f fits fits-table within p q small =
     record {
       long = omega (arith, same);
       small = small;

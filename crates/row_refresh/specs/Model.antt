@@ -62,41 +62,41 @@ isNews mem v row = eqb (sourceIn mem row .vertex) v && comesBefore (sourceIn mem
 unfoldable pub met : List ℕ → ℕ → ℕ → ℕ → ℕ → ℕ → List ℕ
 met mem rows size v row line = cond (isNews mem v row) (spread size mem rows line v (sourceIn mem row .distance)) mem
 
--- v arrived: this for the sources of the rows at these places
+-- v arrived: this for the sources of the rows with these numbers
 unfoldable pub arrived : List ℕ → List ℕ → ℕ → ℕ → ℕ → ℕ → List ℕ
 arrived [] mem rows table size v = mem
-arrived (i ∷ places) mem rows table size v = arrived places (met mem rows size v (rows + 4 * i) (table + size * i)) rows table size v
+arrived (i ∷ numbers) mem rows table size v = arrived numbers (met mem rows size v (rows + 4 * i) (table + size * i)) rows table size v
 
 -- some source was offered, or `any` is true already
 unfoldable pub anyNews : Bool → List ℕ → List ℕ → ℕ → ℕ → ℕ → ℕ → Bool
 anyNews any [] mem rows table size v = any
-anyNews any (i ∷ places) mem rows table size v = anyNews (isNews mem v (rows + 4 * i) || any) places (met mem rows size v (rows + 4 * i) (table + size * i)) rows table size v
+anyNews any (i ∷ numbers) mem rows table size v = anyNews (isNews mem v (rows + 4 * i) || any) numbers (met mem rows size v (rows + 4 * i) (table + size * i)) rows table size v
 
--- the places of the rows whose source shows v
+-- the numbers of the rows whose source shows v
 unfoldable pub bringing : List ℕ → ℕ → ℕ → ℕ → List ℕ
 bringing mem rows size v = keep (λ i. eqb (sourceIn mem (rows + 4 * i) .vertex) v) (upTo size)
 
--- the least of `best` and of these places, each under its source's distance
+-- the least of `best` and of the places of these numbers, each at its source's distance
 unfoldable pub leadFrom : List ℕ → List ℕ → ℕ → ℕ → ℕ
 leadFrom [] mem rows best = best
-leadFrom (i ∷ places) mem rows best = leadFrom places mem rows (lesser best (placed i (sourceIn mem (rows + 4 * i) .distance)))
+leadFrom (i ∷ numbers) mem rows best = leadFrom numbers mem rows (lesser best (placed i (sourceIn mem (rows + 4 * i) .distance)))
 
--- a place whose source is the nearest of these
+-- the number of one whose source is the nearest of these
 abbrev pub lead : List ℕ → List ℕ → ℕ → ℕ
-lead places mem rows = leadFrom places mem rows (placed 0 FAR) % 4294967296
+lead numbers mem rows = leadFrom numbers mem rows (placed 0 FAR) % 4294967296
 
--- these places, and such a one before them
+-- these numbers, and such a one before them
 unfoldable pub led : List ℕ → List ℕ → ℕ → List ℕ
 led [] mem rows = []
-led (i ∷ places) mem rows = lead (i ∷ places) mem rows ∷ i ∷ places
+led (i ∷ numbers) mem rows = lead (i ∷ numbers) mem rows ∷ i ∷ numbers
 
 -- A departure.
 
--- the places of the rows that show v
+-- the numbers of the rows that show v
 unfoldable pub showing : List ℕ → ℕ → ℕ → ℕ → List ℕ
 showing mem rows size v = keep (λ i. eqb (word mem (rows + 4 * i)) v) (upTo size)
 
--- the places of the rows whose source is not empty
+-- the numbers of the rows whose source is not empty
 unfoldable pub filled : List ℕ → ℕ → ℕ → List ℕ
 filled mem rows size = keep (λ i. ltb (sourceIn mem (rows + 4 * i) .distance) FAR) (upTo size)
 
@@ -111,7 +111,7 @@ farKey = 281474976645120
 unfoldable pub unkeyed : ℕ → Row
 unkeyed key = cond (ltb key farKey) (record { vertex = key % 65536; distance = key / 65536 }) emptyRow
 
--- the key of the source at a place
+-- the key of the source of row number i
 abbrev pub sourceKey : List ℕ → ℕ → ℕ → ℕ
 sourceKey mem rows i = keyed (sourceIn mem (rows + 4 * i))
 
@@ -121,11 +121,11 @@ gathered [] steps mem column best = best
 gathered (key ∷ keys) [] mem column best = best
 gathered (key ∷ keys) (step ∷ steps) mem column best = gathered keys steps mem column (lesser best (key + word mem (column + step) * 65536))
 
--- the rows at these places are made anew from these keys, each with its column of the table
+-- the rows with these numbers are made anew from these keys, each with its column of the table
 unfoldable pub renewed : List ℕ → List ℕ → List ℕ → List ℕ → ℕ → ℕ → List ℕ
 renewed [] mem keys steps rows table = mem
-renewed (i ∷ places) mem keys steps rows table =
-    renewed places (shown mem (rows + 4 * i) (unkeyed (gathered keys steps mem (table + i) farKey))) keys steps rows table
+renewed (i ∷ numbers) mem keys steps rows table =
+    renewed numbers (shown mem (rows + 4 * i) (unkeyed (gathered keys steps mem (table + i) farKey))) keys steps rows table
 
 -- v departed: each row that shows it is made anew from the sources as they stand
 unfoldable pub departed : List ℕ → ℕ → ℕ → ℕ → ℕ → List ℕ

@@ -7,18 +7,18 @@ use rows::Row;
 ghost use mathlib.Core.Path.{_≡_};
 ghost use mathlib.Core.Bool.{true, false, _||_, cond};
 ghost use mathlib.Core.List.{_∷_, map};
-ghost use Prim.Native.Nat.{ℕ, _+_, _*_, _/_, _%_, _≤_, _<_};
+ghost use Prim.Native.Nat.{_+_, _*_, _/_, _%_, _≤_, _<_};
 ghost use lib.ListN.{length, take};
 ghost use Rattle.words.specs.Lists.{word};
 ghost use Rattle.rows.specs.Row.{comesBefore};
-ghost use Rattle.row_refresh.specs.Model.{rowIn, shown, sourceIn, offeredTo, offered, placed, unplaced, placedSeen, spread, isNews, met, arrived, anyNews, bringing, lead, showing, filled, keyed, farKey, unkeyed, sourceKey, lesser, gathered, renewed, departed, rowsHere, fits, changed, touches, refreshed, touched, refreshedUp, ownRow, vertexAt, switched};
+ghost use Rattle.row_refresh.specs.Model.{rowIn, shown, sourceIn, offeredTo, offered, placed, unplaced, placedSeen, spread, isNews, met, arrived, anyNews, bringing, lead, showing, filled, farKey, unkeyed, sourceKey, lesser, gathered, renewed, rowsHere, changed, touches, refreshed, touched, refreshedUp, ownRow, switched};
 ghost use Rattle.row_refresh.specs.Lists.{Within, Small, Steps, Renewable};
 
 const MOST_ROWS: usize = 128;
 
 const MOST_LEVELS: usize = 16;
 
-// The places of what is too far to be seen, and of vertex 0 where it does not reach.
+// The places of what is too far to be seen, and of number 0 where it does not reach.
 const LAST_PLACE: u64 = 18446744073709551615;
 
 const FIRST_PLACE: u64 = 18446744069414584320;
@@ -141,24 +141,24 @@ fn meet(
     any
 }
 
-// The sources of the rows at these places are met. Says whether any source was offered, or `already` is true.
+// The sources of the rows with these numbers are met. Says whether any source was offered, or `already` is true.
 fn meet_all(
     mem: &mut [u32],
-    places: &[u32],
+    numbers: &[u32],
     rows: usize,
     table: usize,
     size: usize,
     v: u32,
     already: bool,
 ) -> bool
-    requires { ⌜ (rows + 4 * size ≤ length (now mem)) × (table + size * size ≤ length (now mem)) × (size ≤ 128) × Within size (now places) ⌝ }
-    ensures { λ r. ⌜ (now (mem .exit) ≡ arrived (now (places .entry)) (now (mem .entry)) rows table size v) × (r ≡ anyNews already (now (places .entry)) (now (mem .entry)) rows table size v) ⌝ }
+    requires { ⌜ (rows + 4 * size ≤ length (now mem)) × (table + size * size ≤ length (now mem)) × (size ≤ 128) × Within size (now numbers) ⌝ }
+    ensures { λ r. ⌜ (now (mem .exit) ≡ arrived (now (numbers .entry)) (now (mem .entry)) rows table size v) × (r ≡ anyNews already (now (numbers .entry)) (now (mem .entry)) rows table size v) ⌝ }
 {
-    let n = places.len();
+    let n = numbers.len();
     let mut any = already;
     let mut k = 0;
     while k < n {
-        let i = wide(places[k]);
+        let i = wide(numbers[k]);
         any = meet(mem, rows, size, v, rows + 4 * i, table + size * i, any);
         k += 1;
     }
@@ -177,10 +177,10 @@ fn more(n: usize, is: bool) -> usize
     n
 }
 
-// The places of those of `size` rows whose source shows v. Says how many there are.
-fn list_bringing(mem: &[u32], rows: usize, size: usize, v: u32, places: &mut [u32]) -> usize
-    requires { ⌜ (rows + 4 * size ≤ length (now mem)) × (size ≤ length (now places)) × (size ≤ 128) ⌝ }
-    ensures { λ r. ⌜ (r ≤ size) × (take r (now (places .exit)) ≡ bringing (now (mem .entry)) rows size v) ⌝ }
+// The numbers of those of `size` rows whose source shows v. Says how many there are.
+fn list_bringing(mem: &[u32], rows: usize, size: usize, v: u32, numbers: &mut [u32]) -> usize
+    requires { ⌜ (rows + 4 * size ≤ length (now mem)) × (size ≤ length (now numbers)) × (size ≤ 128) ⌝ }
+    ensures { λ r. ⌜ (r ≤ size) × (take r (now (numbers .exit)) ≡ bringing (now (mem .entry)) rows size v) ⌝ }
 {
     let mut row = rows;
     let mut i: u32 = 0;
@@ -188,7 +188,7 @@ fn list_bringing(mem: &[u32], rows: usize, size: usize, v: u32, places: &mut [u3
     let mut left = size;
     while 0 < left {
         let s = source(mem, row);
-        places[n] = i;
+        numbers[n] = i;
         n = more(n, s.vertex == v);
         row += 4;
         i += 1;
@@ -197,16 +197,16 @@ fn list_bringing(mem: &[u32], rows: usize, size: usize, v: u32, places: &mut [u3
     n
 }
 
-// Of these places one whose source is the nearest.
-fn lead_place(mem: &[u32], places: &[u32], rows: usize, size: usize) -> usize
-    requires { ⌜ (rows + 4 * size ≤ length (now mem)) × (size ≤ 128) × Within size (now places) ⌝ }
-    ensures { λ r. ⌜ r ≡ lead (now (places .entry)) (now (mem .entry)) rows ⌝ }
+// Of the rows with these numbers one whose source is the nearest: its number.
+fn nearest_number(mem: &[u32], numbers: &[u32], rows: usize, size: usize) -> usize
+    requires { ⌜ (rows + 4 * size ≤ length (now mem)) × (size ≤ 128) × Within size (now numbers) ⌝ }
+    ensures { λ r. ⌜ r ≡ lead (now (numbers .entry)) (now (mem .entry)) rows ⌝ }
 {
-    let n = places.len();
+    let n = numbers.len();
     let mut best = FIRST_PLACE;
     let mut k = 0;
     while k < n {
-        let i = places[k];
+        let i = numbers[k];
         let s = source(mem, rows + 4 * wide(i));
         best = lesser_of(best, place(i, s.distance));
         k += 1;
@@ -214,14 +214,21 @@ fn lead_place(mem: &[u32], places: &[u32], rows: usize, size: usize) -> usize
     (best % 4294967296) as usize
 }
 
-// The sources of the rows at these places are met, the nearest first: what it brings the others often need not bring again.
-fn meet_led(mem: &mut [u32], places: &[u32], rows: usize, table: usize, size: usize, v: u32) -> bool
-    requires { ⌜ (rows + 4 * size ≤ length (now mem)) × (table + size * size ≤ length (now mem)) × (size ≤ 128) × (0 < size) × Within size (now places) ⌝ }
-    ensures { λ r. ⌜ (now (mem .exit) ≡ arrived (lead (now (places .entry)) (now (mem .entry)) rows ∷ now (places .entry)) (now (mem .entry)) rows table size v) × (r ≡ anyNews false (lead (now (places .entry)) (now (mem .entry)) rows ∷ now (places .entry)) (now (mem .entry)) rows table size v) ⌝ }
+// The sources of the rows with these numbers are met, the nearest first: what it brings the others often need not bring again.
+fn meet_led(
+    mem: &mut [u32],
+    numbers: &[u32],
+    rows: usize,
+    table: usize,
+    size: usize,
+    v: u32,
+) -> bool
+    requires { ⌜ (rows + 4 * size ≤ length (now mem)) × (table + size * size ≤ length (now mem)) × (size ≤ 128) × (0 < size) × Within size (now numbers) ⌝ }
+    ensures { λ r. ⌜ (now (mem .exit) ≡ arrived (lead (now (numbers .entry)) (now (mem .entry)) rows ∷ now (numbers .entry)) (now (mem .entry)) rows table size v) × (r ≡ anyNews false (lead (now (numbers .entry)) (now (mem .entry)) rows ∷ now (numbers .entry)) (now (mem .entry)) rows table size v) ⌝ }
 {
-    let i = lead_place(mem, places, rows, size);
+    let i = nearest_number(mem, numbers, rows, size);
     let any = meet(mem, rows, size, v, rows + 4 * i, table + size * i, false);
-    meet_all(mem, places, rows, table, size, v, any)
+    meet_all(mem, numbers, rows, table, size, v, any)
 }
 
 // v arrived in a part with these rows and this table. Says whether any source was offered.
@@ -229,25 +236,25 @@ fn arrive(mem: &mut [u32], rows: usize, table: usize, size: usize, v: u32) -> bo
     requires { ⌜ (rows + 4 * size ≤ length (now mem)) × (table + size * size ≤ length (now mem)) × (size ≤ 128) ⌝ }
     ensures { λ r. ⌜ (now (mem .exit) ≡ changed (now (mem .entry)) rows table size v true) × (r ≡ touches (now (mem .entry)) rows table size v true) ⌝ }
 {
-    let mut places = [0u32; 128];
-    let n = list_bringing(mem, rows, size, v, &mut places);
+    let mut numbers = [0u32; 128];
+    let n = list_bringing(mem, rows, size, v, &mut numbers);
     if 0 < n {
-        return meet_led(mem, &places[..n], rows, table, size, v);
+        return meet_led(mem, &numbers[..n], rows, table, size, v);
     }
     false
 }
 
-// The places of those of `size` rows that show v. Says how many there are.
-fn list_showing(mem: &[u32], rows: usize, size: usize, v: u32, places: &mut [u32]) -> usize
-    requires { ⌜ (rows + 4 * size ≤ length (now mem)) × (size ≤ length (now places)) × (size ≤ 128) ⌝ }
-    ensures { λ r. ⌜ (r ≤ size) × (take r (now (places .exit)) ≡ showing (now (mem .entry)) rows size v) ⌝ }
+// The numbers of those of `size` rows that show v. Says how many there are.
+fn list_showing(mem: &[u32], rows: usize, size: usize, v: u32, numbers: &mut [u32]) -> usize
+    requires { ⌜ (rows + 4 * size ≤ length (now mem)) × (size ≤ length (now numbers)) × (size ≤ 128) ⌝ }
+    ensures { λ r. ⌜ (r ≤ size) × (take r (now (numbers .exit)) ≡ showing (now (mem .entry)) rows size v) ⌝ }
 {
     let mut row = rows;
     let mut i: u32 = 0;
     let mut n = 0;
     let mut left = size;
     while 0 < left {
-        places[n] = i;
+        numbers[n] = i;
         n = more(n, mem[row] == v);
         row += 4;
         i += 1;
@@ -326,37 +333,37 @@ fn gather(mem: &[u32], keys: &[u64], steps: &[usize], column: usize) -> u64
     best
 }
 
-// The rows at these places are made anew.
+// The rows with these numbers are made anew.
 fn renew_all(
     mem: &mut [u32],
-    places: &[u32],
+    numbers: &[u32],
     keys: &[u64],
     steps: &[usize],
     rows: usize,
     table: usize,
 )
-    requires { ⌜ Renewable (length (now mem)) (now places) (now keys) (now steps) rows table ⌝ }
-    ensures { λ _. ⌜ now (mem .exit) ≡ renewed (now (places .entry)) (now (mem .entry)) (now (keys .entry)) (now (steps .entry)) rows table ⌝ }
+    requires { ⌜ Renewable (length (now mem)) (now numbers) (now keys) (now steps) rows table ⌝ }
+    ensures { λ _. ⌜ now (mem .exit) ≡ renewed (now (numbers .entry)) (now (mem .entry)) (now (keys .entry)) (now (steps .entry)) rows table ⌝ }
 {
-    let n = places.len();
+    let n = numbers.len();
     let mut k = 0;
     while k < n {
-        let i = wide(places[k]);
+        let i = wide(numbers[k]);
         let best = gather(mem, keys, steps, table + i);
         show(mem, rows + 4 * i, row_of_key(best));
         k += 1;
     }
 }
 
-// The rows at these places are made anew from the part's sources as they stand.
-fn renew_part(mem: &mut [u32], places: &[u32], rows: usize, table: usize, size: usize)
-    requires { ⌜ (rows + 4 * size ≤ length (now mem)) × (table + size * size ≤ length (now mem)) × (size ≤ 128) × Within size (now places) ⌝ }
-    ensures { λ _. ⌜ now (mem .exit) ≡ renewed (now (places .entry)) (now (mem .entry)) (map (sourceKey (now (mem .entry)) rows) (filled (now (mem .entry)) rows size)) (map (λ i. size * i) (filled (now (mem .entry)) rows size)) rows table ⌝ }
+// The rows with these numbers are made anew from the part's sources as they stand.
+fn renew_part(mem: &mut [u32], numbers: &[u32], rows: usize, table: usize, size: usize)
+    requires { ⌜ (rows + 4 * size ≤ length (now mem)) × (table + size * size ≤ length (now mem)) × (size ≤ 128) × Within size (now numbers) ⌝ }
+    ensures { λ _. ⌜ now (mem .exit) ≡ renewed (now (numbers .entry)) (now (mem .entry)) (map (sourceKey (now (mem .entry)) rows) (filled (now (mem .entry)) rows size)) (map (λ i. size * i) (filled (now (mem .entry)) rows size)) rows table ⌝ }
 {
     let mut keys = [0u64; 128];
     let mut steps = [0usize; 128];
     let n = list_sources(mem, rows, size, &mut keys, &mut steps);
-    renew_all(mem, places, &keys[..n], &steps[..n], rows, table);
+    renew_all(mem, numbers, &keys[..n], &steps[..n], rows, table);
 }
 
 // v departed from a part with these rows and this table. Says whether any row showed it.
@@ -364,10 +371,10 @@ fn depart(mem: &mut [u32], rows: usize, table: usize, size: usize, v: u32) -> bo
     requires { ⌜ (rows + 4 * size ≤ length (now mem)) × (table + size * size ≤ length (now mem)) × (size ≤ 128) ⌝ }
     ensures { λ r. ⌜ (now (mem .exit) ≡ changed (now (mem .entry)) rows table size v false) × (r ≡ touches (now (mem .entry)) rows table size v false) ⌝ }
 {
-    let mut places = [0u32; 128];
-    let n = list_showing(mem, rows, size, v, &mut places);
+    let mut numbers = [0u32; 128];
+    let n = list_showing(mem, rows, size, v, &mut numbers);
     if 0 < n {
-        renew_part(mem, &places[..n], rows, table, size);
+        renew_part(mem, &numbers[..n], rows, table, size);
         return true;
     }
     false

@@ -15,8 +15,8 @@ slice-aggregate-list-bringing c = search needs
 list-bringing-requires : tie.Need-list-bringing-requires
 list-bringing-requires c κs = search needs
 
-array-share-prefix-places : tie.Need-array-share-prefix-places
-array-share-prefix-places c = search needs
+array-share-prefix-numbers : tie.Need-array-share-prefix-numbers
+array-share-prefix-numbers c = search needs
 
 slice-aggregate-meet-led : tie.Need-slice-aggregate-meet-led
 slice-aggregate-meet-led c =
@@ -54,7 +54,7 @@ arrive-spec =
     (tie.spec
     slice-aggregate-list-bringing
     list-bringing-requires
-    array-share-prefix-places
+    array-share-prefix-numbers
     slice-aggregate-meet-led
     meet-led-requires
     same-length

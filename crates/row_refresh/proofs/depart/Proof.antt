@@ -16,8 +16,8 @@ slice-aggregate-list-showing c = search needs
 list-showing-requires : tie.Need-list-showing-requires
 list-showing-requires c κs = search needs
 
-array-share-prefix-places : tie.Need-array-share-prefix-places
-array-share-prefix-places c = search needs
+array-share-prefix-numbers : tie.Need-array-share-prefix-numbers
+array-share-prefix-numbers c = search needs
 
 slice-aggregate-renew-part : tie.Need-slice-aggregate-renew-part
 slice-aggregate-renew-part c =
@@ -56,7 +56,7 @@ depart-spec =
     (tie.spec
     slice-aggregate-list-showing
     list-showing-requires
-    array-share-prefix-places
+    array-share-prefix-numbers
     slice-aggregate-renew-part
     renew-part-requires
     same-length

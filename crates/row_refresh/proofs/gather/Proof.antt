@@ -1,5 +1,5 @@
 -- `row_refresh::gather` is `gathered`: what is left to gather from here stays the whole.
-use mathlib.Core.Path.{_≡_, refl, sym, _∙_, ap}
+use mathlib.Core.Path.{_≡_, refl, sym, _∙_}
 use Prim.Native.Nat.{_-_, _≤_}
 use lib.ListN.{length, drop}
 use Rattle.row_refresh.specs.Model.{farKey, gathered}

@@ -1,7 +1,7 @@
 -- `row_refresh::list_sources` lists the keys and steps of `filled`: what counts so far and what is left to look at stays the whole.
-use mathlib.Core.Path.{_≡_, refl, sym, _∙_, ap}
+use mathlib.Core.Path.{_≡_, refl, _∙_, ap}
 use mathlib.Core.List.{_++_, map}
-use Prim.Native.Nat.{ℕ, _+_, _-_, _*_, _≤_}
+use Prim.Native.Nat.{_+_, _-_, _*_, _≤_}
 use lib.ListN.{length, take}
 use lib.Dec.{ltb}
 use Rattle.words.specs.Limits.{FAR}

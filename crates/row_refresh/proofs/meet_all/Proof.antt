@@ -1,6 +1,6 @@
 -- `row_refresh::meet_all` is `arrived`, and says `anyNews`: what is left to meet from here stays the whole.
-use mathlib.Core.Path.{_≡_, refl, sym, _∙_, ap}
-use Prim.Native.Nat.{ℕ, _+_, _-_, _*_, _≤_, _<_}
+use mathlib.Core.Path.{_≡_, refl, sym, _∙_}
+use Prim.Native.Nat.{_-_, _≤_, _<_}
 use lib.ListN.{length, drop}
 use Rattle.row_refresh.specs.Model.{arrived, anyNews}
 use Rattle.row_refresh.proofs.Chain.{arrived-turn, arrived-done, news-turn, news-done, line-within, square-most}
@@ -10,10 +10,10 @@ use Rattle.row_refresh.proofs.meet_all.Statement.{statement}
 use Rattle.row_refresh.proofs.meet_all.Tie as tie
 
 abbrev Inv-loop : tie.InvT-loop
-Inv-loop mem₀ places rows table size v already n any₀ k₀ mem any k = (length mem ≡ length mem₀) × (k ≤ length places) × (arrived (drop k places) mem rows table size v ≡ arrived places mem₀ rows table size v) × (anyNews any (drop k places) mem rows table size v ≡ anyNews already places mem₀ rows table size v)
+Inv-loop mem₀ numbers rows table size v already n any₀ k₀ mem any k = (length mem ≡ length mem₀) × (k ≤ length numbers) × (arrived (drop k numbers) mem rows table size v ≡ arrived numbers mem₀ rows table size v) × (anyNews any (drop k numbers) mem rows table size v ≡ anyNews already numbers mem₀ rows table size v)
 
 abbrev μ-loop : tie.MeasureT-loop
-μ-loop mem₀ places rows table size v already n any₀ k₀ mem any k = length places - k
+μ-loop mem₀ numbers rows table size v already n any₀ k₀ mem any k = length numbers - k
 
 loop-holds : tie.Need-loop-holds Inv-loop μ-loop
 loop-holds c = (refl, omega arith, refl, refl)
@@ -60,7 +60,7 @@ loop-again c =
     let loop′ = c .before .before .before .before .before .before .before .loop in
     let wide′ = c .before .before .before .before .wide in
     let meet′ = c .before .before .meet in
-    (search needs, omega arith, arrived-turn (args′ .places .now) (loop′ .k) (omega arith) (loop′ .mem) _ (args′ .rows) (args′ .table) (args′ .size) (args′ .v) _ (wide′ .ensures) (meet′ .ensures .0) ∙ loop′ .inv .2, news-turn (args′ .places .now) (loop′ .k) (omega arith) (loop′ .mem) _ (args′ .rows) (args′ .table) (args′ .size) (args′ .v) _ (wide′ .ensures) (meet′ .ensures .0) (loop′ .any) _ (meet′ .ensures .1) ∙ loop′ .inv .3)
+    (search needs, omega arith, arrived-turn (args′ .numbers .now) (loop′ .k) (omega arith) (loop′ .mem) _ (args′ .rows) (args′ .table) (args′ .size) (args′ .v) _ (wide′ .ensures) (meet′ .ensures .0) ∙ loop′ .inv .2, news-turn (args′ .numbers .now) (loop′ .k) (omega arith) (loop′ .mem) _ (args′ .rows) (args′ .table) (args′ .size) (args′ .v) _ (wide′ .ensures) (meet′ .ensures .0) (loop′ .any) _ (meet′ .ensures .1) ∙ loop′ .inv .3)
 
 same-length : tie.Need-same-length Inv-loop μ-loop
 same-length c = c .before .loop .inv .0
@@ -69,7 +69,7 @@ returns : tie.Need-returns Inv-loop μ-loop
 returns c =
     let args′ = c .before .before .before .before .args in
     let loop′ = c .before .loop in
-    (sym (arrived-done (args′ .places .now) (loop′ .k) (c .loop-test .left) (loop′ .mem) (args′ .rows) (args′ .table) (args′ .size) (args′ .v)) ∙ loop′ .inv .2, sym (news-done (args′ .places .now) (loop′ .k) (c .loop-test .left) (loop′ .mem) (args′ .rows) (args′ .table) (args′ .size) (args′ .v) (loop′ .any)) ∙ loop′ .inv .3)
+    (sym (arrived-done (args′ .numbers .now) (loop′ .k) (c .loop-test .left) (loop′ .mem) (args′ .rows) (args′ .table) (args′ .size) (args′ .v)) ∙ loop′ .inv .2, sym (news-done (args′ .numbers .now) (loop′ .k) (c .loop-test .left) (loop′ .mem) (args′ .rows) (args′ .table) (args′ .size) (args′ .v) (loop′ .any)) ∙ loop′ .inv .3)
 
 pub meet-all-spec : {M : Type 1} → statement M
 meet-all-spec =

@@ -1,8 +1,7 @@
 -- `row_refresh::renew_all` is `renewed`: what is left to make anew from here stays the whole.
-use mathlib.Core.Path.{_≡_, refl, sym, _∙_, ap}
-use Prim.Native.Nat.{ℕ, _+_, _-_, _*_, _≤_, _<_}
+use mathlib.Core.Path.{_≡_, refl, sym, _∙_}
+use Prim.Native.Nat.{_-_, _≤_}
 use lib.ListN.{length, drop}
-use Rattle.words.specs.Lists.{word}
 use Rattle.row_refresh.specs.Model.{renewed}
 use Rattle.row_refresh.proofs.Chain.{renewed-turn, renewed-done}
 use borrow.Author.Needs.{needs}
@@ -11,10 +10,10 @@ use Rattle.row_refresh.proofs.renew_all.Statement.{statement}
 use Rattle.row_refresh.proofs.renew_all.Tie as tie
 
 abbrev Inv-loop : tie.InvT-loop
-Inv-loop mem₀ places keys steps rows table n k₀ mem k = (length mem ≡ length mem₀) × (k ≤ length places) × (renewed (drop k places) mem keys steps rows table ≡ renewed places mem₀ keys steps rows table)
+Inv-loop mem₀ numbers keys steps rows table n k₀ mem k = (length mem ≡ length mem₀) × (k ≤ length numbers) × (renewed (drop k numbers) mem keys steps rows table ≡ renewed numbers mem₀ keys steps rows table)
 
 abbrev μ-loop : tie.MeasureT-loop
-μ-loop mem₀ places keys steps rows table n k₀ mem k = length places - k
+μ-loop mem₀ numbers keys steps rows table n k₀ mem k = length numbers - k
 
 loop-holds : tie.Need-loop-holds Inv-loop μ-loop
 loop-holds c = (refl, omega arith, refl)
@@ -63,7 +62,7 @@ loop-again c =
     let gather′ = c .before .before .before .before .before .gather in
     let row-of-key′ = c .before .before .before .row-of-key in
     let show′ = c .before .before .show in
-    (search needs, omega arith, renewed-turn (args′ .places .now) (loop′ .mem) _ (args′ .keys .now) (args′ .steps .now) (args′ .rows) (args′ .table) (loop′ .k) _ _ _ (omega arith) (wide′ .ensures) (gather′ .ensures) (row-of-key′ .ensures) (show′ .ensures) ∙ loop′ .inv .2)
+    (search needs, omega arith, renewed-turn (args′ .numbers .now) (loop′ .mem) _ (args′ .keys .now) (args′ .steps .now) (args′ .rows) (args′ .table) (loop′ .k) _ _ _ (omega arith) (wide′ .ensures) (gather′ .ensures) (row-of-key′ .ensures) (show′ .ensures) ∙ loop′ .inv .2)
 
 same-length : tie.Need-same-length Inv-loop μ-loop
 same-length c = c .before .loop .inv .0
@@ -72,7 +71,7 @@ returns : tie.Need-returns Inv-loop μ-loop
 returns c =
     let args′ = c .before .before .before .before .before .before .args in
     let loop′ = c .before .loop in
-    sym (renewed-done (args′ .places .now) (loop′ .mem) (args′ .keys .now) (args′ .steps .now) (args′ .rows) (args′ .table) (loop′ .k) (c .loop-test .left)) ∙ loop′ .inv .2
+    sym (renewed-done (args′ .numbers .now) (loop′ .mem) (args′ .keys .now) (args′ .steps .now) (args′ .rows) (args′ .table) (loop′ .k) (c .loop-test .left)) ∙ loop′ .inv .2
 
 pub renew-all-spec : {M : Type 1} → statement M
 renew-all-spec =

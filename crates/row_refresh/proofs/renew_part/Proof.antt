@@ -42,7 +42,7 @@ renew-all-requires c κs =
     let pre′ = c .before .before .before .before .before .before .before .before .before .before .before .pre in
     let args′ = c .before .before .before .before .before .before .before .before .before .before .before .args in
     let listed′ = c .before .before .before .before .before .list-sources in
-    renewable (λ i. ltb (sourceIn (args′ .mem .now) (args′ .rows + 4 * i) .distance) FAR) (length (args′ .mem .now)) (args′ .size) (args′ .rows) (args′ .table) (args′ .places .now) _ _ (sourceKey (args′ .mem .now) (args′ .rows)) (pre′ .0) (pre′ .1) (pre′ .3) (listed′ .ensures .1) (listed′ .ensures .2) (small-listed (listed′ .result) (listed′ .last .1 .1 .1 .0) (omega (arith, listed′ .kept .1 .1 .1 .0)) (listed′ .ensures .3))
+    renewable (λ i. ltb (sourceIn (args′ .mem .now) (args′ .rows + 4 * i) .distance) FAR) (length (args′ .mem .now)) (args′ .size) (args′ .rows) (args′ .table) (args′ .numbers .now) _ _ (sourceKey (args′ .mem .now) (args′ .rows)) (pre′ .0) (pre′ .1) (pre′ .3) (listed′ .ensures .1) (listed′ .ensures .2) (small-listed (listed′ .result) (listed′ .last .1 .1 .1 .0) (omega (arith, listed′ .kept .1 .1 .1 .0)) (listed′ .ensures .3))
 
 same-length : tie.Need-same-length
 same-length c = search needs
@@ -52,7 +52,7 @@ returns c =
     let args′ = c .before .before .before .before .before .before .before .before .before .before .before .before .before .before .args in
     let listed′ = c .before .before .before .before .before .before .before .before .list-sources in
     let renew-all′ = c .before .before .renew-all in
-    renew-all′ .ensures ∙ λ t. renewed (args′ .places .now) (args′ .mem .now) (listed′ .ensures .1 t) (listed′ .ensures .2 t) (args′ .rows) (args′ .table)
+    renew-all′ .ensures ∙ λ t. renewed (args′ .numbers .now) (args′ .mem .now) (listed′ .ensures .1 t) (listed′ .ensures .2 t) (args′ .rows) (args′ .table)
 
 pub renew-part-spec : {M : Type 1} → statement M
 renew-part-spec =
