@@ -165,8 +165,8 @@ fn meet_all(
     any
 }
 
-// How long a list is after one more entry was written, which counts if `is` is true. Lists are written so since no one knows beforehand which entries count:
-// a jump would often go the wrong way.
+// How long a list is after one more entry was written, which counts if `is` is true. Lists are written so because which entries count is not foreseen, and a
+// jump would often go the wrong way.
 fn more(n: usize, is: bool) -> usize
     requires { ⌜ n < 4294967296 ⌝ }
     ensures { λ r. ⌜ (r ≡ cond is (n + 1) n) × (r ≤ n + 1) ⌝ }
@@ -263,6 +263,7 @@ fn list_showing(mem: &[u32], rows: usize, size: usize, v: u32, numbers: &mut [u3
     n
 }
 
+// A row as a key, to which a distance can be added: of two rows whose vertices are below 65,536 the one that comes before has the lesser.
 fn key(vertex: u32, distance: u32) -> u64
     ensures { λ r. ⌜ (r ≡ distance * 65536 + vertex) × (r < 562949953421312) ⌝ }
 {
@@ -277,6 +278,7 @@ fn key_seen(key: u64, d: u32) -> u64
     key + d as u64 * 65536
 }
 
+// The lesser of two places, or of two keys.
 fn lesser_of(a: u64, b: u64) -> u64
     ensures { λ r. ⌜ r ≡ lesser a b ⌝ }
 {
