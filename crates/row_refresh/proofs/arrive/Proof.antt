@@ -9,15 +9,6 @@ use native.Mathlib.Omega.{arith}
 use Rattle.row_refresh.proofs.arrive.Statement.{statement}
 use Rattle.row_refresh.proofs.arrive.Tie as tie
 
-slice-aggregate-list-bringing : tie.Need-slice-aggregate-list-bringing
-slice-aggregate-list-bringing c = search needs
-
-list-bringing-requires : tie.Need-list-bringing-requires
-list-bringing-requires c κs = search needs
-
-array-share-prefix-numbers : tie.Need-array-share-prefix-numbers
-array-share-prefix-numbers c = search needs
-
 slice-aggregate-meet-led : tie.Need-slice-aggregate-meet-led
 slice-aggregate-meet-led c =
     let listed′ = c .before .before .before .before .list-bringing in
@@ -30,17 +21,11 @@ meet-led-requires c κs =
     let listed′ = c .before .before .before .before .list-bringing in
     (search needs, search needs, search needs, omega (arith, listed′ .ensures .0), kept-within (λ i. eqb (sourceIn (args′ .mem .now) (args′ .rows + 4 * i) .vertex) (args′ .v)) (args′ .size) _ (listed′ .ensures .1))
 
-same-length : tie.Need-same-length
-same-length c = search needs
-
 returns : tie.Need-returns
 returns c =
     let args′ = c .before .before .before .before .before .before .before .before .before .before .before .args in
     let listed′ = c .before .before .before .before .before .before .before .list-bringing in
     arrived-some (args′ .mem .now) (args′ .rows) (args′ .table) (args′ .size) (args′ .v) _ (listed′ .ensures .1) _ _ (omega (arith, listed-count (listed′ .result) (listed′ .last .1 .1 .1 .1 .0) (omega (arith, listed′ .kept .1 .1 .1 .1 .0)))) (c .before .before .meet-led .ensures)
-
-same-length-2 : tie.Need-same-length-2
-same-length-2 c = search needs
 
 returns-2 : tie.Need-returns-2
 returns-2 c =
@@ -52,12 +37,12 @@ pub arrive-spec : {M : Type 1} → statement M
 arrive-spec =
     tie.close
     (tie.spec
-    slice-aggregate-list-bringing
-    list-bringing-requires
-    array-share-prefix-numbers
+    (search needs)
+    (search needs)
+    (search needs)
     slice-aggregate-meet-led
     meet-led-requires
-    same-length
+    (search needs)
     returns
-    same-length-2
+    (search needs)
     returns-2)

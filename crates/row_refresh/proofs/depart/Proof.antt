@@ -10,15 +10,6 @@ use native.Mathlib.Omega.{arith}
 use Rattle.row_refresh.proofs.depart.Statement.{statement}
 use Rattle.row_refresh.proofs.depart.Tie as tie
 
-slice-aggregate-list-showing : tie.Need-slice-aggregate-list-showing
-slice-aggregate-list-showing c = search needs
-
-list-showing-requires : tie.Need-list-showing-requires
-list-showing-requires c κs = search needs
-
-array-share-prefix-numbers : tie.Need-array-share-prefix-numbers
-array-share-prefix-numbers c = search needs
-
 slice-aggregate-renew-part : tie.Need-slice-aggregate-renew-part
 slice-aggregate-renew-part c =
     let listed′ = c .before .before .before .before .list-showing in
@@ -31,18 +22,12 @@ renew-part-requires c κs =
     let listed′ = c .before .before .before .before .list-showing in
     (search needs, search needs, search needs, kept-within (λ i. eqb (word (args′ .mem .now) (args′ .rows + 4 * i)) (args′ .v)) (args′ .size) _ (listed′ .ensures .1))
 
-same-length : tie.Need-same-length
-same-length c = search needs
-
 returns : tie.Need-returns
 returns c =
     let args′ = c .before .before .before .before .before .before .before .before .before .before .before .args in
     let listed′ = c .before .before .before .before .before .before .before .list-showing in
     let renew-part′ = c .before .before .renew-part in
     departed-some (args′ .mem .now) (args′ .rows) (args′ .table) (args′ .size) (args′ .v) _ (listed′ .ensures .1) _ (omega (arith, listed-count (listed′ .result) (listed′ .last .1 .1 .1 .1 .0) (omega (arith, listed′ .kept .1 .1 .1 .1 .0)))) (renew-part′ .ensures)
-
-same-length-2 : tie.Need-same-length-2
-same-length-2 c = search needs
 
 returns-2 : tie.Need-returns-2
 returns-2 c =
@@ -54,12 +39,12 @@ pub depart-spec : {M : Type 1} → statement M
 depart-spec =
     tie.close
     (tie.spec
-    slice-aggregate-list-showing
-    list-showing-requires
-    array-share-prefix-numbers
+    (search needs)
+    (search needs)
+    (search needs)
     slice-aggregate-renew-part
     renew-part-requires
-    same-length
+    (search needs)
     returns
-    same-length-2
+    (search needs)
     returns-2)

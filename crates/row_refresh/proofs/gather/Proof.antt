@@ -18,20 +18,11 @@ abbrev μ-loop : tie.MeasureT-loop
 loop-holds : tie.Need-loop-holds Inv-loop μ-loop
 loop-holds c = (omega arith, refl)
 
-mul-at : tie.Need-mul-at Inv-loop μ-loop
-mul-at c = search needs
-
 shared-slice-read-at : tie.Need-shared-slice-read-at Inv-loop μ-loop
 shared-slice-read-at c = omega (arith, c .before .before .before .before .before .before .pre .long)
 
 add-at : tie.Need-add-at Inv-loop μ-loop
 add-at c = omega (arith, c .before .before .before .before .before .before .pre .inside (c .before .before .loop .k) (omega arith))
-
-mul-key-seen : tie.Need-mul-key-seen Inv-loop μ-loop
-mul-key-seen c = search needs
-
-shared-slice-read-key-seen : tie.Need-shared-slice-read-key-seen Inv-loop μ-loop
-shared-slice-read-key-seen c = search needs
 
 mul-key-seen-2 : tie.Need-mul-key-seen-2 Inv-loop μ-loop
 mul-key-seen-2 c = omega (arith, c .before .before .before .before .before .before .before .pre .inside (c .before .before .before .loop .k) (omega arith))
@@ -41,15 +32,6 @@ shared-slice-read-key-seen-2 c = omega (arith, c .before .before .before .before
 
 key-seen-requires : tie.Need-key-seen-requires Inv-loop μ-loop
 key-seen-requires c κs = c .before .before .before .before .before .before .before .before .pre .small (c .before .before .before .before .loop .k) (omega arith)
-
-lesser-of-requires : tie.Need-lesser-of-requires Inv-loop μ-loop
-lesser-of-requires c κs = search needs
-
-add-k : tie.Need-add-k Inv-loop μ-loop
-add-k c = search needs
-
-loop-less : tie.Need-loop-less Inv-loop μ-loop
-loop-less c = search needs
 
 loop-again : tie.Need-loop-again Inv-loop μ-loop
 loop-again c =
@@ -69,16 +51,16 @@ gather-spec =
     Inv-loop
     μ-loop
     loop-holds
-    mul-at
+    (search needs)
     shared-slice-read-at
     add-at
-    mul-key-seen
-    shared-slice-read-key-seen
+    (search needs)
+    (search needs)
     mul-key-seen-2
     shared-slice-read-key-seen-2
     key-seen-requires
-    lesser-of-requires
-    add-k
-    loop-less
+    (search needs)
+    (search needs)
+    (search needs)
     loop-again
     returns)

@@ -23,30 +23,6 @@ loop-holds : tie.Need-loop-holds Inv-loop μ-loop
 unfolding bringing
 loop-holds c = (refl, omega arith, omega arith, omega arith, refl)
 
-source-requires : tie.Need-source-requires Inv-loop μ-loop
-source-requires c κs = omega arith
-
-mul-numbers : tie.Need-mul-numbers Inv-loop μ-loop
-mul-numbers c = search needs
-
-slice-write-numbers : tie.Need-slice-write-numbers Inv-loop μ-loop
-slice-write-numbers c = omega arith
-
-more-requires : tie.Need-more-requires Inv-loop μ-loop
-more-requires c κs = omega arith
-
-add-row : tie.Need-add-row Inv-loop μ-loop
-add-row c = omega arith
-
-add-i : tie.Need-add-i Inv-loop μ-loop
-add-i c = omega arith
-
-sub-left : tie.Need-sub-left Inv-loop μ-loop
-sub-left c = omega arith
-
-loop-less : tie.Need-loop-less Inv-loop μ-loop
-loop-less c = omega arith
-
 loop-again : tie.Need-loop-again Inv-loop μ-loop
 loop-again c =
     let args′ = c .before .before .before .before .before .before .before .args in
@@ -69,14 +45,14 @@ list-bringing-spec =
     Inv-loop
     μ-loop
     loop-holds
-    source-requires
-    mul-numbers
-    slice-write-numbers
-    more-requires
-    add-row
-    add-i
-    sub-left
-    loop-less
+    (search needs)
+    (search needs)
+    (search needs)
+    (search needs)
+    (search needs)
+    (search needs)
+    (search needs)
+    (search needs)
     loop-again
     same-length
     returns)

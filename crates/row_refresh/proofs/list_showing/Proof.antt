@@ -22,33 +22,6 @@ loop-holds : tie.Need-loop-holds Inv-loop μ-loop
 unfolding showing
 loop-holds c = (refl, omega arith, omega arith, omega arith, refl)
 
-mul-numbers : tie.Need-mul-numbers Inv-loop μ-loop
-mul-numbers c = search needs
-
-slice-write-numbers : tie.Need-slice-write-numbers Inv-loop μ-loop
-slice-write-numbers c = omega arith
-
-mul-more : tie.Need-mul-more Inv-loop μ-loop
-mul-more c = search needs
-
-shared-slice-read-more : tie.Need-shared-slice-read-more Inv-loop μ-loop
-shared-slice-read-more c = omega arith
-
-more-requires : tie.Need-more-requires Inv-loop μ-loop
-more-requires c κs = omega arith
-
-add-row : tie.Need-add-row Inv-loop μ-loop
-add-row c = omega arith
-
-add-i : tie.Need-add-i Inv-loop μ-loop
-add-i c = omega arith
-
-sub-left : tie.Need-sub-left Inv-loop μ-loop
-sub-left c = omega arith
-
-loop-less : tie.Need-loop-less Inv-loop μ-loop
-loop-less c = omega arith
-
 loop-again : tie.Need-loop-again Inv-loop μ-loop
 loop-again c =
     let args′ = c .before .before .before .before .before .before .args in
@@ -70,15 +43,15 @@ list-showing-spec =
     Inv-loop
     μ-loop
     loop-holds
-    mul-numbers
-    slice-write-numbers
-    mul-more
-    shared-slice-read-more
-    more-requires
-    add-row
-    add-i
-    sub-left
-    loop-less
+    (search needs)
+    (search needs)
+    (search needs)
+    (search needs)
+    (search needs)
+    (search needs)
+    (search needs)
+    (search needs)
+    (search needs)
     loop-again
     same-length
     returns)

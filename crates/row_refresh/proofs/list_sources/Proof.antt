@@ -27,42 +27,6 @@ loop-holds c =
     let args′ = c .before .before .before .args in
     (refl, refl, omega arith, omega arith, omega arith, omega arith, listed-first (λ j. ltb (sourceIn (args′ .mem .now) (args′ .rows + 4 * j) .distance) FAR) (sourceKey (args′ .mem .now) (args′ .rows)) (args′ .keys .now) (args′ .size), listed-first (λ j. ltb (sourceIn (args′ .mem .now) (args′ .rows + 4 * j) .distance) FAR) (λ j. args′ .size * j) (args′ .steps .now) (args′ .size), λ k h. absurd (omega arith))
 
-mul-source : tie.Need-mul-source Inv-loop μ-loop
-mul-source c = omega arith
-
-add-source : tie.Need-add-source Inv-loop μ-loop
-add-source c = omega arith
-
-source-requires : tie.Need-source-requires Inv-loop μ-loop
-source-requires c κs = omega arith
-
-key-requires : tie.Need-key-requires Inv-loop μ-loop
-key-requires c κs = search needs
-
-mul-keys : tie.Need-mul-keys Inv-loop μ-loop
-mul-keys c = search needs
-
-slice-write-keys : tie.Need-slice-write-keys Inv-loop μ-loop
-slice-write-keys c = omega arith
-
-mul-steps : tie.Need-mul-steps Inv-loop μ-loop
-mul-steps c = search needs
-
-slice-write-steps : tie.Need-slice-write-steps Inv-loop μ-loop
-slice-write-steps c = omega arith
-
-more-requires : tie.Need-more-requires Inv-loop μ-loop
-more-requires c κs = omega arith
-
-add-step : tie.Need-add-step Inv-loop μ-loop
-add-step c = omega arith
-
-add-i : tie.Need-add-i Inv-loop μ-loop
-add-i c = omega arith
-
-loop-less : tie.Need-loop-less Inv-loop μ-loop
-loop-less c = omega arith
-
 loop-again : tie.Need-loop-again Inv-loop μ-loop
 loop-again c =
     let args′ = c .before .before .before .before .before .before .before .before .before .args in
@@ -91,18 +55,18 @@ list-sources-spec =
     Inv-loop
     μ-loop
     loop-holds
-    mul-source
-    add-source
-    source-requires
-    key-requires
-    mul-keys
-    slice-write-keys
-    mul-steps
-    slice-write-steps
-    more-requires
-    add-step
-    add-i
-    loop-less
+    (search needs)
+    (search needs)
+    (search needs)
+    (search needs)
+    (search needs)
+    (search needs)
+    (search needs)
+    (search needs)
+    (search needs)
+    (search needs)
+    (search needs)
+    (search needs)
     loop-again
     same-length
     same-length-2

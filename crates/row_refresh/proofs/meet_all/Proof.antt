@@ -18,15 +18,6 @@ abbrev μ-loop : tie.MeasureT-loop
 loop-holds : tie.Need-loop-holds Inv-loop μ-loop
 loop-holds c = (refl, omega arith, refl, refl)
 
-mul-wide : tie.Need-mul-wide Inv-loop μ-loop
-mul-wide c = search needs
-
-shared-slice-read-wide : tie.Need-shared-slice-read-wide Inv-loop μ-loop
-shared-slice-read-wide c = omega arith
-
-wide-requires : tie.Need-wide-requires Inv-loop μ-loop
-wide-requires c κs = search needs
-
 mul-meet : tie.Need-mul-meet Inv-loop μ-loop
 mul-meet c = omega (arith, c .before .wide .ensures, c .before .before .before .before .before .before .before .pre .3 (c .before .before .before .before .loop .k) (omega arith))
 
@@ -47,12 +38,6 @@ meet-requires : tie.Need-meet-requires Inv-loop μ-loop
 meet-requires c κs =
     let i′ : c .before .wide .result < c .before .before .before .before .before .before .before .args .size = omega (arith, c .before .wide .ensures, c .before .before .before .before .before .before .before .pre .3 (c .before .before .before .before .loop .k) (omega arith)) in
     (omega arith, omega (arith, line-within (c .before .before .before .before .before .before .before .args .size) (c .before .wide .result) i′), omega arith)
-
-add-k : tie.Need-add-k Inv-loop μ-loop
-add-k c = omega arith
-
-loop-less : tie.Need-loop-less Inv-loop μ-loop
-loop-less c = omega arith
 
 loop-again : tie.Need-loop-again Inv-loop μ-loop
 loop-again c =
@@ -78,16 +63,16 @@ meet-all-spec =
     Inv-loop
     μ-loop
     loop-holds
-    mul-wide
-    shared-slice-read-wide
-    wide-requires
+    (search needs)
+    (search needs)
+    (search needs)
     mul-meet
     add-meet
     mul-meet-2
     add-meet-2
     meet-requires
-    add-k
-    loop-less
+    (search needs)
+    (search needs)
     loop-again
     same-length
     returns)

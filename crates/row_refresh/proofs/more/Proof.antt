@@ -5,9 +5,6 @@ use native.Mathlib.Omega.{arith}
 use Rattle.row_refresh.proofs.more.Statement.{statement}
 use Rattle.row_refresh.proofs.more.Tie as tie
 
-add-result : tie.Need-add-result
-add-result c = search needs
-
 returns : tie.Need-returns
 returns c = (rw (c .if1 .taken) refl, omega arith)
 
@@ -15,4 +12,4 @@ returns-2 : tie.Need-returns-2
 returns-2 c = (rw (c .if1 .left) refl, omega arith)
 
 pub more-spec : {M : Type 1} → statement M
-more-spec = tie.close (tie.spec add-result returns returns-2)
+more-spec = tie.close (tie.spec (search needs) returns returns-2)

@@ -19,15 +19,6 @@ abbrev μ-loop : tie.MeasureT-loop
 loop-holds : tie.Need-loop-holds Inv-loop μ-loop
 loop-holds c = (omega arith, refl)
 
-mul-i : tie.Need-mul-i Inv-loop μ-loop
-mul-i c = search needs
-
-shared-slice-read-i : tie.Need-shared-slice-read-i Inv-loop μ-loop
-shared-slice-read-i c = omega arith
-
-wide-requires : tie.Need-wide-requires Inv-loop μ-loop
-wide-requires c κs = search needs
-
 mul-source : tie.Need-mul-source Inv-loop μ-loop
 mul-source c = omega (arith, c .wide .ensures, c .before .before .before .before .before .before .pre .2 (c .before .before .before .loop .k) (omega arith))
 
@@ -36,18 +27,6 @@ add-source c = omega (arith, c .wide .ensures, c .before .before .before .before
 
 source-requires : tie.Need-source-requires Inv-loop μ-loop
 source-requires c κs = omega (arith, c .wide .ensures, c .before .before .before .before .before .before .pre .2 (c .before .before .before .loop .k) (omega arith))
-
-place-requires : tie.Need-place-requires Inv-loop μ-loop
-place-requires c κs = search needs
-
-lesser-of-requires : tie.Need-lesser-of-requires Inv-loop μ-loop
-lesser-of-requires c κs = search needs
-
-add-k : tie.Need-add-k Inv-loop μ-loop
-add-k c = omega arith
-
-loop-less : tie.Need-loop-less Inv-loop μ-loop
-loop-less c = omega arith
 
 loop-again : tie.Need-loop-again Inv-loop μ-loop
 loop-again c =
@@ -68,15 +47,15 @@ nearest-number-spec =
     Inv-loop
     μ-loop
     loop-holds
-    mul-i
-    shared-slice-read-i
-    wide-requires
+    (search needs)
+    (search needs)
+    (search needs)
     mul-source
     add-source
     source-requires
-    place-requires
-    lesser-of-requires
-    add-k
-    loop-less
+    (search needs)
+    (search needs)
+    (search needs)
+    (search needs)
     loop-again
     returns)

@@ -18,15 +18,6 @@ abbrev μ-loop : tie.MeasureT-loop
 loop-holds : tie.Need-loop-holds Inv-loop μ-loop
 loop-holds c = (refl, omega arith, refl)
 
-mul-wide : tie.Need-mul-wide Inv-loop μ-loop
-mul-wide c = search needs
-
-shared-slice-read-wide : tie.Need-shared-slice-read-wide Inv-loop μ-loop
-shared-slice-read-wide c = omega arith
-
-wide-requires : tie.Need-wide-requires Inv-loop μ-loop
-wide-requires c κs = search needs
-
 add-gather : tie.Need-add-gather Inv-loop μ-loop
 add-gather c = omega (arith, c .before .wide .ensures, c .before .before .before .before .before .before .before .before .before .pre .column (c .before .before .before .before .loop .k) (omega arith))
 
@@ -42,17 +33,8 @@ mul-show c = omega (arith, c .before .before .before .wide .ensures, c .before .
 add-show : tie.Need-add-show Inv-loop μ-loop
 add-show c = omega (arith, c .before .before .before .wide .ensures, c .before .before .before .before .before .before .before .before .before .before .before .pre .row (c .before .before .before .before .before .before .loop .k) (omega arith))
 
-row-of-key-requires : tie.Need-row-of-key-requires Inv-loop μ-loop
-row-of-key-requires c κs = search needs
-
 show-requires : tie.Need-show-requires Inv-loop μ-loop
 show-requires c κs = omega (arith, c .before .before .before .before .wide .ensures, c .before .before .before .before .before .before .before .before .before .before .before .before .pre .row (c .before .before .before .before .before .before .before .loop .k) (omega arith))
-
-add-k : tie.Need-add-k Inv-loop μ-loop
-add-k c = omega arith
-
-loop-less : tie.Need-loop-less Inv-loop μ-loop
-loop-less c = omega arith
 
 loop-again : tie.Need-loop-again Inv-loop μ-loop
 loop-again c =
@@ -80,17 +62,17 @@ renew-all-spec =
     Inv-loop
     μ-loop
     loop-holds
-    mul-wide
-    shared-slice-read-wide
-    wide-requires
+    (search needs)
+    (search needs)
+    (search needs)
     add-gather
     gather-requires
     mul-show
     add-show
-    row-of-key-requires
+    (search needs)
     show-requires
-    add-k
-    loop-less
+    (search needs)
+    (search needs)
     loop-again
     same-length
     returns)

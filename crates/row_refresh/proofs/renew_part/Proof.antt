@@ -11,25 +11,10 @@ use native.Mathlib.Omega.{arith}
 use Rattle.row_refresh.proofs.renew_part.Statement.{statement}
 use Rattle.row_refresh.proofs.renew_part.Tie as tie
 
-slice-aggregate-list-sources : tie.Need-slice-aggregate-list-sources
-slice-aggregate-list-sources c = search needs
-
-slice-aggregate-list-sources-2 : tie.Need-slice-aggregate-list-sources-2
-slice-aggregate-list-sources-2 c = search needs
-
-list-sources-requires : tie.Need-list-sources-requires
-list-sources-requires c κs = search needs
-
-array-share-prefix-keys : tie.Need-array-share-prefix-keys
-array-share-prefix-keys c = search needs
-
 slice-aggregate-renew-all : tie.Need-slice-aggregate-renew-all
 slice-aggregate-renew-all c =
     let listed′ = c .before .before .before .before .list-sources in
     listed-count (listed′ .result) (listed′ .last .1 .1 .1 .0) (omega (arith, listed′ .kept .1 .1 .1 .0))
-
-array-share-prefix-steps : tie.Need-array-share-prefix-steps
-array-share-prefix-steps c = search needs
 
 slice-aggregate-renew-all-2 : tie.Need-slice-aggregate-renew-all-2
 slice-aggregate-renew-all-2 c =
@@ -44,9 +29,6 @@ renew-all-requires c κs =
     let listed′ = c .before .before .before .before .before .list-sources in
     renewable (λ i. ltb (sourceIn (args′ .mem .now) (args′ .rows + 4 * i) .distance) FAR) (length (args′ .mem .now)) (args′ .size) (args′ .rows) (args′ .table) (args′ .numbers .now) _ _ (sourceKey (args′ .mem .now) (args′ .rows)) (pre′ .0) (pre′ .1) (pre′ .3) (listed′ .ensures .1) (listed′ .ensures .2) (small-listed (listed′ .result) (listed′ .last .1 .1 .1 .0) (omega (arith, listed′ .kept .1 .1 .1 .0)) (listed′ .ensures .3))
 
-same-length : tie.Need-same-length
-same-length c = search needs
-
 returns : tie.Need-returns
 returns c =
     let args′ = c .before .before .before .before .before .before .before .before .before .before .before .before .before .before .args in
@@ -58,13 +40,13 @@ pub renew-part-spec : {M : Type 1} → statement M
 renew-part-spec =
     tie.close
     (tie.spec
-    slice-aggregate-list-sources
-    slice-aggregate-list-sources-2
-    list-sources-requires
-    array-share-prefix-keys
+    (search needs)
+    (search needs)
+    (search needs)
+    (search needs)
     slice-aggregate-renew-all
-    array-share-prefix-steps
+    (search needs)
     slice-aggregate-renew-all-2
     renew-all-requires
-    same-length
+    (search needs)
     returns)

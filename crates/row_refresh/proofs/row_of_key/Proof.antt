@@ -2,24 +2,11 @@
 use mathlib.Core.Path.{refl}
 use Rattle.row_refresh.proofs.Chain.{key-near, key-far}
 use borrow.Author.Needs.{needs}
-use native.Mathlib.Omega.{arith}
 use Rattle.row_refresh.proofs.row_of_key.Statement.{statement}
 use Rattle.row_refresh.proofs.row_of_key.Tie as tie
 
-cast-showing : tie.Need-cast-showing
-cast-showing c = omega arith
-
-cast-showing-2 : tie.Need-cast-showing-2
-cast-showing-2 c = omega arith
-
-showing-requires : tie.Need-showing-requires
-showing-requires c κs = search needs
-
 returns : tie.Need-returns
 returns c = key-near (c .before .before .args .key) _ _ _ (c .before .if1 .taken) (c .showing .ensures) refl refl
-
-empty-requires : tie.Need-empty-requires
-empty-requires c κs = search needs
 
 returns-2 : tie.Need-returns-2
 returns-2 c = key-far (c .before .before .args .key) _ (c .before .if1 .left) (c .empty .ensures)
@@ -27,4 +14,4 @@ returns-2 c = key-far (c .before .before .args .key) _ (c .before .if1 .left) (c
 pub row-of-key-spec : {M : Type 1} → statement M
 row-of-key-spec =
     tie.close
-    (tie.spec cast-showing cast-showing-2 showing-requires returns empty-requires returns-2)
+    (tie.spec (search needs) (search needs) (search needs) returns (search needs) returns-2)
