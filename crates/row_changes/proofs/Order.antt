@@ -3,12 +3,13 @@
 use mathlib.Core.Path.{_≡_, refl, sym, _∙_, ap, ap₂, subst, subst⁻¹}
 use mathlib.Core.Logic.{_⊎_, inl, inr, ⊎-elim}
 use mathlib.Core.Bool.{Bool, true, false, cond}
-use mathlib.Core.List.{List, [], _∷_, map, foldr, List·Memᴰ, List·Memᴰ·head, List·Memᴰ·tail}
+use mathlib.Core.List.{List, [], _∷_, map, foldr, List·Memᴰ, List·Memᴰ·head, List·Memᴰ·tail, List·Memᴰ·not-nil, List·Memᴰ·cases-cons}
 use Prim.Native.Nat.{ℕ, _+_, _≤_, _<_}
 use native.Mathlib.Decide.{decLt}
 use native.Mathlib.Omega.{arith}
 use borrow.Author.Tests.{lt-ltb, le-ltb}
 use Rattle.words.specs.Limits.{FAR}
+use Rattle.words.specs.Lists.{keep}
 use Rattle.rows.specs.declared.Row.{Row}
 use Rattle.rows.specs.Row.{emptyRow, comesBefore, nearer}
 use Rattle.rows.specs.Refresh.{onward}
@@ -131,3 +132,39 @@ module _ {A : Type 0} (new : A → Row) (old : A → Row) (test : A → Bool) wh
           ∙ nearer-absorbs (new x) (old x) (nearestOf (map new xs)) (nears x (List·Memᴰ·head refl))
       by false e later =
           met-start (old x) start xs ∙ ap (nearer (old x)) later ∙ ap (λ (row : Row). nearer row (nearestOf (map new xs))) (sym (kept x (List·Memᴰ·head refl) e))
+
+  -- entries that change nothing may be left out
+  pub met-kept : (start : Row) (kept : A → Bool) (xs : List A)
+      → ((x : A) → List·Memᴰ x xs → kept x ≡ false → (ys : List A) → cond (test x) (nearer (new x) (met start ys)) (met start ys) ≡ met start ys) → met start (keep kept xs) ≡ met start xs
+  met-kept start kept [] needless = refl
+  met-kept start kept (x ∷ xs) needless = by (kept x) refl (met-kept start kept xs (λ y h. needless y (List·Memᴰ·tail h)))
+    where
+      by : (b : Bool) → kept x ≡ b → met start (keep kept xs) ≡ met start xs
+          → met start (cond b (x ∷ keep kept xs) (keep kept xs)) ≡ cond (test x) (nearer (new x) (met start xs)) (met start xs)
+      by true e later = ap (λ (row : Row). cond (test x) (nearer (new x) row) row) later
+      by false e later = later ∙ sym (needless x (List·Memᴰ·head refl) e xs)
+
+  -- no later than any that the test shows
+  met-le : (start : Row) (x : A) (xs : List A) → List·Memᴰ x xs → test x ≡ true → RowLe (met start xs) (new x)
+  met-le start x [] h e = absurd (List·Memᴰ·not-nil h)
+  met-le start x (y ∷ xs) h e = ⊎-elim (λ same. here same) (λ later. there later (test y) (met-le start x xs later e)) (List·Memᴰ·cases-cons h)
+    where
+      rest : Row
+      rest = met start xs
+
+      here : x ≡ y → RowLe (cond (test y) (nearer (new y) rest) rest) (new x)
+      here same =
+          subst⁻¹ (λ (z : A). RowLe (cond (test y) (nearer (new y) rest) rest) (new z)) same
+          (subst⁻¹ (λ (b : Bool). RowLe (cond b (nearer (new y) rest) rest) (new y)) (ap test (sym same) ∙ e) (nearer-is (new y) rest .left))
+
+      there : List·Memᴰ x xs → (b : Bool) → RowLe rest (new x) → RowLe (cond b (nearer (new y) rest) rest) (new x)
+      there later true le = le-trans (nearer (new y) rest) rest (new x) (nearer-is (new y) rest .right) le
+      there later false le = le
+
+  -- one that is compared anyway may be compared before
+  pub met-again : (start : Row) (x : A) (xs : List A) → List·Memᴰ x xs → met start (x ∷ xs) ≡ met start xs
+  met-again start x xs h = by (test x) refl
+    where
+      by : (b : Bool) → test x ≡ b → cond b (nearer (new x) (met start xs)) (met start xs) ≡ met start xs
+      by true e = nearer-kept (new x) (met start xs) (met-le start x xs h e)
+      by false e = refl

@@ -33,12 +33,13 @@ use Rattle.row_changes.specs.Switch.{Switched}
 use Rattle.row_changes.specs.Source.{source, candidate, rowAnew, rowMet}
 use Rattle.row_changes.proofs.Best.{row-shown, row-closed}
 use Rattle.row_changes.proofs.Refresh.{row-met, row-left}
-use Rattle.row_refresh.specs.Model.{rowIn, sourceIn, arrived, anyNews, anyShows, sources, sourceCount, departed, partAt, rowsHere, fits, changed, touches, refreshed, touched}
+use Rattle.row_refresh.specs.Model.{rowIn, sourceIn, bringing, led, partAt, rowsHere, fits, changed, touches, refreshed, touched}
 use Rattle.row_memory.specs.Kept.{Kept}
-use Rattle.row_memory.specs.Laid.{Laid, RowsShow}
+use Rattle.row_memory.specs.Laid.{Few, Laid, RowsShow}
 use Rattle.row_memory.proofs.Apart.{rows-last, rows-first, table-last, table-before, part-before, itself-before, early, beside}
 use Rattle.row_memory.proofs.Offered.{Plain, kept-self}
-use Rattle.row_memory.proofs.OnePart.{Ready, Triangle, Closed, arrived-rows, departed-rows, arrived-none, departed-none}
+use Rattle.row_memory.proofs.OnePart.{Ready, Triangle, Closed, arrived-rows, arrived-none}
+use Rattle.row_memory.proofs.Departure.{Fits, departed-rows, departed-none}
 
 -- A fold over the entries' numbers.
 module _ {B : Type 0} where
@@ -157,10 +158,10 @@ module _ (m : Map) (net : Net m) (tree : Tree m) (p : ℕ) (hp : p < partCount m
   triangle i k j hi hk hj = dist-triangle m net (rowVertex m p i) (real i hi) (rowVertex m p k) (rowVertex m p j) (real k hk)
 
   -- v became active or inactive
-  module _ (v : ℕ) (hv : v < m .vertices) (before after : ℕ → Bool) (few : sizeOf m p ≤ 128) (mem : List ℕ) (laid : Laid m after mem) (later : LaterShow after mem)
+  module _ (v : ℕ) (hv : v < m .vertices) (before after : ℕ → Bool) (few : Few m) (mem : List ℕ) (laid : Laid m after mem) (later : LaterShow after mem)
       (shows : RowsShow m before mem p) where
     size-here : rowsHere mem p ≡ sizeOf m p
-    size-here = rw (laid .size p hp) (rw (le-ltb 128 (sizeOf m p) few))
+    size-here = rw (laid .size p hp) (rw (le-ltb 128 (sizeOf m p) (few .rows p hp)))
 
     -- the part's record leads to its rows and its table
     within-memory : fits mem (word mem (partAt p + 2)) (word mem (partAt p + 3)) (rowsHere mem p) ≡ true
@@ -182,24 +183,10 @@ module _ (m : Map) (net : Net m) (tree : Tree m) (p : ℕ) (hp : p < partCount m
     -- where no row may have changed, the memory is as it was
     pub untouched : (is : Bool) → touched mem p v is ≡ false → refreshed mem p v is ≡ mem
     unfolding touches changed
-    untouched true none = here true ∙ arrived-none (firstRowOf m p) (sizeOf m p) (tableOf m p) (λ i. emptyRow) (λ i j. 0) v (sizeOf m p) mem (firstRowOf m p) (tableOf m p) (sym (here-touched true) ∙ none)
-    untouched false none =
-        here false
-        ∙ ap (λ (b : Bool). cond b (departed (sizeOf m p) mem (sources mem (firstRowOf m p) (sizeOf m p)) (sourceCount mem (firstRowOf m p) (sizeOf m p)) (sizeOf m p) v (firstRowOf m p) (tableOf m p)) mem)
-        (sym (here-touched false) ∙ none)
-
-    -- a departure looks at all rows, also where none shows v
-    all-looked-at : changed mem (firstRowOf m p) (tableOf m p) (sizeOf m p) v false
-        ≡ departed (sizeOf m p) mem (sources mem (firstRowOf m p) (sizeOf m p)) (sourceCount mem (firstRowOf m p) (sizeOf m p)) (sizeOf m p) v (firstRowOf m p) (tableOf m p)
-    unfolding changed
-    all-looked-at = by (anyShows (sizeOf m p) mem v (firstRowOf m p)) refl
-      where
-        all : List ℕ
-        all = departed (sizeOf m p) mem (sources mem (firstRowOf m p) (sizeOf m p)) (sourceCount mem (firstRowOf m p) (sizeOf m p)) (sizeOf m p) v (firstRowOf m p) (tableOf m p)
-
-        by : (b : Bool) → anyShows (sizeOf m p) mem v (firstRowOf m p) ≡ b → cond b all mem ≡ all
-        by true e = refl
-        by false e = sym (departed-none (sources mem (firstRowOf m p) (sizeOf m p)) (sourceCount mem (firstRowOf m p) (sizeOf m p)) (sizeOf m p) v (sizeOf m p) mem (firstRowOf m p) (tableOf m p) e)
+    untouched true none =
+        here true
+        ∙ arrived-none (firstRowOf m p) (sizeOf m p) (tableOf m p) (λ i. emptyRow) (λ i j. 0) v (led (bringing mem (firstRowOf m p) (sizeOf m p) v) mem (firstRowOf m p)) mem (sym (here-touched true) ∙ none)
+    untouched false none = here false ∙ departed-none mem (firstRowOf m p) (tableOf m p) (sizeOf m p) v (sym (here-touched false) ∙ none)
 
     closed : Closed (firstRowOf m p) (sizeOf m p) (tableOf m p) (λ i. source m after p (rowVertex m p i)) (λ i j. dist m (rowVertex m p i) (rowVertex m p j)) mem
     closed i j hi hj =
@@ -211,7 +198,7 @@ module _ (m : Map) (net : Net m) (tree : Tree m) (p : ℕ) (hp : p < partCount m
     unfolding rowMet candidate sizeOf changed
     arrived-here switch =
         let done =
-        arrived-rows (firstRowOf m p) (sizeOf m p) (tableOf m p) (λ i. source m after p (rowVertex m p i)) (λ i j. dist m (rowVertex m p i) (rowVertex m p j)) v triangle mem (ready after mem laid later)
+        arrived-rows (firstRowOf m p) (sizeOf m p) (tableOf m p) (λ i. source m after p (rowVertex m p i)) (λ i j. dist m (rowVertex m p i) (rowVertex m p j)) v (few .rows p hp) triangle mem (ready after mem laid later)
         (λ j hj. subst⁻¹ Plain (shows j hj) (row-plain before (rowVertex m p j))) closed
         in
         subst⁻¹ (λ (l : List ℕ). Kept (firstRowOf m p) (sizeOf m p) mem l × RowsShow m after l p) (here true) (
@@ -223,18 +210,39 @@ module _ (m : Map) (net : Net m) (tree : Tree m) (p : ℕ) (hp : p < partCount m
               ∙ sym (row-met m v switch hv net tree p hp (rowVertex m p j) (row-in j hj)),
         )
 
+    -- a source shows one of the map's vertices, or none
+    source-fits : Fits (sizeOf m p) (λ i. source m after p (rowVertex m p i))
+    unfolding source itself
+    source-fits i hi = by (isLeaf m p)
+      where
+        b : ℕ
+        b = rowVertex m p i
+
+        own : (is : Bool) → cond is (record { vertex = b; distance = 0 }) emptyRow .vertex < 65536
+        own true = omega (arith, real i hi, few .vertices)
+        own false = omega arith
+
+        shown : (q : ℕ) → rowOf m after q b .vertex < 65536
+        shown q =
+            ⊎-elim (λ none. subst⁻¹ (λ (k : Row). k .vertex < 65536) none (omega arith)) (λ some. subst⁻¹ (λ (k : Row). k .vertex < 65536) (some .2) (omega (arith, some .1 .vertex, few .vertices)))
+            (row-shown m after q b)
+
+        by : (leaf : Bool) → cond leaf (cond (after b) (record { vertex = b; distance = 0 }) emptyRow) (rowOf m after (childOf m p b) b) .vertex < 65536
+        by true = own (after b)
+        by false = shown (childOf m p b)
+
     pub departed-here : Switched v false before after → Kept (firstRowOf m p) (sizeOf m p) mem (refreshed mem p v false) × RowsShow m after (refreshed mem p v false) p
-    unfolding rowAnew candidate sizeOf
+    unfolding rowAnew candidate sizeOf changed
     departed-here switch =
         let done =
-        departed-rows (firstRowOf m p) (sizeOf m p) (tableOf m p) (λ i. source m after p (rowVertex m p i)) (λ i j. dist m (rowVertex m p i) (rowVertex m p j)) v few mem (ready after mem laid later)
+        departed-rows (firstRowOf m p) (sizeOf m p) (tableOf m p) (λ i. source m after p (rowVertex m p i)) (λ i j. dist m (rowVertex m p i) (rowVertex m p j)) source-fits v mem (ready after mem laid later)
         in
         let again : (j : ℕ) → foldr (λ n best. nearer (candidate m after p (rowVertex m p j) (rowVertex m p n)) best) emptyRow (countFrom 0 (sizeOf m p)) ≡ rowAnew m after p (rowVertex m p j) =
         λ j.
         fold-numbers (λ b best. nearer (candidate m after p (rowVertex m p j) b) best) emptyRow 0 (rowVertices m p)
         ∙ fold-map nearer (candidate m after p (rowVertex m p j)) emptyRow (rowVertices m p)
         in
-        subst⁻¹ (λ (l : List ℕ). Kept (firstRowOf m p) (sizeOf m p) mem l × RowsShow m after l p) (here false ∙ all-looked-at) (
+        subst⁻¹ (λ (l : List ℕ). Kept (firstRowOf m p) (sizeOf m p) mem l × RowsShow m after l p) (here false) (
           done .kept,
           λ j hj.
               done .shows j hj

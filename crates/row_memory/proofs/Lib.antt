@@ -1,6 +1,8 @@
 -- Laws that the crates above cite.
 pub mod Offered
 pub mod OnePart
+pub mod Keys
+pub mod Departure
 pub mod Apart
 pub mod Genuine
 pub mod Levels

@@ -1,28 +1,26 @@
--- What the refresh of one part does to its rows, in any memory whose words show the part's sources and its table.
+-- What an arrival does to the rows of one part, in any memory whose words show the part's sources and its table.
 -- Assumes nothing.
 use mathlib.Core.Path.{_≡_, refl, sym, _∙_, ap, subst, subst⁻¹}
-use mathlib.Core.Logic.{inl, inr, ⊎-elim}
+use mathlib.Core.Logic.{⊎-elim}
 use mathlib.Core.Bool.{Bool, true, false, _&&_, _||_, cond, true≢false}
-use mathlib.Core.List.{List, [], _∷_}
+use mathlib.Core.List.{List, [], _∷_, List·Memᴰ, List·Memᴰ·head, List·Memᴰ·tail, List·Memᴰ·cases-cons}
 use Prim.Native.Nat.{ℕ, zero, suc, _+_, _*_, _≤_, _<_}
-use native.Mathlib.Nat.{mul-suc, mul-comm}
-use native.Mathlib.Decide.{ℕ-discrete, decLt}
+use native.Mathlib.Decide.{ℕ-discrete}
 use native.Mathlib.Omega.{arith}
-use lib.ListN.{length, set, replicate, length-set, length-replicate}
-use lib.Seq.{getD-set-same, getD-set-other}
-use lib.Dec.{eqb, ltb}
-use borrow.Author.Tests.{eqb-true, lt-ltb, le-ltb}
-use Rattle.words.specs.Limits.{FAR}
-use Rattle.words.specs.Lists.{word, countFrom}
-use Rattle.words.proofs.Tests.{neither-true}
+use lib.ListN.{length}
+use lib.Dec.{eqb}
+use borrow.Author.Tests.{eqb-true}
+use Rattle.words.specs.Lists.{word, upTo, countFrom, keep}
+use Rattle.words.proofs.Lists.{countFrom-below, keep-says, upTo-has}
 use Rattle.rows.specs.declared.Row.{Row}
-use Rattle.rows.specs.Row.{emptyRow, comesBefore, nearer}
+use Rattle.rows.specs.Row.{comesBefore, nearer}
 use Rattle.rows.specs.Refresh.{onward}
 use Rattle.rows.proofs.Above.{RowLe, le-trans, nearer-is}
-use Rattle.row_changes.proofs.Order.{le-nearer, onward-le, onward-twice, nearer-kept, not-before, met, met-turn}
-use Rattle.row_refresh.specs.Model.{rowIn, shown, sourceIn, offeredTo, offered, spread, isNews, met as metIn, arrived, anyNews, anyShows, noted, notedCount, listed, listedCount, sources, sourceCount, gathered, renewed, departed}
+use Rattle.row_changes.proofs.Order.{onward-le, onward-twice, nearer-kept, not-before, met, met-turn, met-kept, met-again}
+use Rattle.row_refresh.specs.Model.{rowIn, sourceIn, offered, spread, isNews, met as metIn, arrived, anyNews, bringing, lead, led}
+use Rattle.row_refresh.proofs.Chain.{lead-within}
 use Rattle.row_memory.specs.Kept.{Kept}
-use Rattle.row_memory.proofs.Offered.{Plain, onward-plain, nearer-plain, nearer-empty, offered-near, shown-row, shown-others, shown-length, offered-row, OneRow, kept-self, kept-trans, one-offered, one-shown, one-self}
+use Rattle.row_memory.proofs.Offered.{Plain, onward-plain, nearer-plain, offered-row, OneRow, kept-self, kept-trans, one-offered}
 
 -- Row i has the source `from i`, and the table has the distance `far i j` from row i to row j.
 pub record Facts (rows size table : ℕ) (from : ℕ → Row) (far : ℕ → ℕ → ℕ) (mem : List ℕ) : Type 0 where
@@ -33,15 +31,6 @@ pub record Facts (rows size table : ℕ) (from : ℕ → Row) (far : ℕ → ℕ
 pub record Ready (rows size table : ℕ) (from : ℕ → Row) (far : ℕ → ℕ → ℕ) (mem : List ℕ) : Type 0 where
   pub facts : (after : List ℕ) → Kept rows size mem after → Facts rows size table from far after
   pub fits : rows + 4 * size ≤ length mem
-
--- Where no row shows v, none is made anew.
-pub departed-none : (list : List ℕ) (count size v left : ℕ) (mem : List ℕ) (row column : ℕ) → anyShows left mem v row ≡ false → departed left mem list count size v row column ≡ mem
-unfolding anyShows departed renewed
-departed-none list count size v zero mem row column none = refl
-departed-none list count size v (suc left) mem row column none =
-    let both = neither-true (eqb (word mem row) v) (anyShows left mem v (row + 4)) none in
-    ap (λ (b : Bool). departed left (cond b (shown mem row (gathered count mem list size column 0 emptyRow)) mem) list count size v (row + 4) (column + 1)) (both .0)
-    ∙ departed-none list count size v left mem (row + 4) (column + 1) (both .1)
 
 -- the source n was offered to row i alone
 record Offer (rows size : ℕ) (row : Row) (i : ℕ) (mem after : List ℕ) : Type 0 where
@@ -85,17 +74,17 @@ module _ (rows size table : ℕ) (from : ℕ → Row) (far : ℕ → ℕ → ℕ
         same t = offered mem (p t) (r t) (s t) (d t)
 
   -- The rows from i on were gone through: each became what `turn` makes of it, and those before it stayed.
-  record Swept (turn : ℕ → Row → Row) (i : ℕ) (mem after : List ℕ) : Type 0 where
-    kept : Kept rows size mem after
-    below : (j : ℕ) → j < i → rowIn after (rows + 4 * j) ≡ rowIn mem (rows + 4 * j)
-    shows : (j : ℕ) → i ≤ j → j < size → rowIn after (rows + 4 * j) ≡ turn j (rowIn mem (rows + 4 * j))
+  pub record Swept (turn : ℕ → Row → Row) (i : ℕ) (mem after : List ℕ) : Type 0 where
+    pub kept : Kept rows size mem after
+    pub below : (j : ℕ) → j < i → rowIn after (rows + 4 * j) ≡ rowIn mem (rows + 4 * j)
+    pub shows : (j : ℕ) → i ≤ j → j < size → rowIn after (rows + 4 * j) ≡ turn j (rowIn mem (rows + 4 * j))
 
   module _ (turn : ℕ → Row → Row) where
-    swept-none : (mem : List ℕ) (i : ℕ) → size ≤ i → Swept turn i mem mem
+    pub swept-none : (mem : List ℕ) (i : ℕ) → size ≤ i → Swept turn i mem mem
     swept-none mem i past = record { kept = kept-self rows size mem; below = λ j h. refl; shows = λ j low hj. absurd (omega arith) }
 
     -- one row more
-    swept-step : (i : ℕ) (mem middle after : List ℕ) → OneRow rows size i mem middle → rowIn middle (rows + 4 * i) ≡ turn i (rowIn mem (rows + 4 * i)) → Swept turn (suc i) middle after
+    pub swept-step : (i : ℕ) (mem middle after : List ℕ) → OneRow rows size i mem middle → rowIn middle (rows + 4 * i) ≡ turn i (rowIn mem (rows + 4 * i)) → Swept turn (suc i) middle after
         → Swept turn i mem after
     swept-step i mem middle after one turns rest =
         record {
@@ -200,270 +189,94 @@ module _ (rows size table : ℕ) (from : ℕ → Row) (far : ℕ → ℕ → ℕ
             (le-trans new there (onward here (far i j)) (nearer-is (seenFrom j n) there .right) (closed i j hi hj)))
             (nearer-is (seenFrom i n) here .one)
 
-    -- v arrived: the sources from n on were met
-    arrived-from : Triangle size far → (left n : ℕ) (mem : List ℕ) (row line : ℕ) → n + left ≡ size → row ≡ rows + 4 * n → line ≡ table + size * n → Ready rows size table from far mem → PlainRows mem → Closed mem
-        → Rows (λ j. met (seenFrom j) (seenFrom j) showsIt (rowIn mem (rows + 4 * j)) (countFrom n left)) mem (arrived left mem rows size v row line)
+    -- v arrived: the sources of the rows with these numbers were met
+    arrived-at : Triangle size far → (numbers : List ℕ) → ((i : ℕ) → List·Memᴰ i numbers → i < size) → (mem : List ℕ) → Ready rows size table from far mem → PlainRows mem → Closed mem
+        → Rows (λ j. met (seenFrom j) (seenFrom j) showsIt (rowIn mem (rows + 4 * j)) numbers) mem (arrived numbers mem rows table size v)
     unfolding arrived
-    arrived-from triangle zero n mem row line all p q ready plain closed = record { kept = kept-self rows size mem; shows = λ j h. refl }
-    arrived-from triangle (suc left) n mem row line all p q ready plain closed =
-        let first = met-rows n (omega arith) mem row line p q ready plain closed in
-        let middle : List ℕ = metIn mem rows size v row line in
+    arrived-at triangle [] within mem ready plain closed = record { kept = kept-self rows size mem; shows = λ j h. refl }
+    arrived-at triangle (n ∷ numbers) within mem ready plain closed =
+        let hn = within n (List·Memᴰ·head refl) in
+        let first = met-rows n hn mem (rows + 4 * n) (table + size * n) refl refl ready plain closed in
+        let middle : List ℕ = metIn mem rows size v (rows + 4 * n) (table + size * n) in
         let rest =
-        arrived-from triangle left (suc n) middle (row + 4) (line + size) (omega arith) (omega arith) (omega (arith, mul-suc size n)) (ready-kept (first .kept) ready)
+        arrived-at triangle numbers (λ i h. within i (List·Memᴰ·tail h)) middle (ready-kept (first .kept) ready)
         (λ j h. subst⁻¹ Plain (first .shows j h) (turned-plain j n (rowIn mem (rows + 4 * j)) (plain j h)))
-        (turned-closed triangle n (omega arith) mem middle closed (first .shows))
+        (turned-closed triangle n hn mem middle closed (first .shows))
         in
         record {
           kept = kept-trans rows size (first .kept) (rest .kept);
           shows =
               λ j h.
               rest .shows j h
-              ∙ ap (λ (row : Row). met (seenFrom j) (seenFrom j) showsIt row (countFrom (suc n) left)) (first .shows j h)
-              ∙ met-turn (seenFrom j) (seenFrom j) showsIt (rowIn mem (rows + 4 * j)) n (countFrom (suc n) left);
+              ∙ ap (λ (row : Row). met (seenFrom j) (seenFrom j) showsIt row numbers) (first .shows j h)
+              ∙ met-turn (seenFrom j) (seenFrom j) showsIt (rowIn mem (rows + 4 * j)) n numbers;
         }
 
-    pub arrived-rows : Triangle size far → (mem : List ℕ) → Ready rows size table from far mem → PlainRows mem → Closed mem
-        → Rows (λ j. met (seenFrom j) (seenFrom j) showsIt (rowIn mem (rows + 4 * j)) (countFrom 0 size)) mem (arrived size mem rows size v rows table)
-    arrived-rows triangle mem ready plain closed = arrived-from triangle size 0 mem rows table (omega arith) (omega arith) (omega arith) ready plain closed
+    -- all sources that show v are, and the others change nothing
+    pub arrived-rows : size ≤ 128 → Triangle size far → (mem : List ℕ) → Ready rows size table from far mem → PlainRows mem → Closed mem
+        → Rows (λ j. met (seenFrom j) (seenFrom j) showsIt (rowIn mem (rows + 4 * j)) (countFrom 0 size)) mem (arrived (led (bringing mem rows size v) mem rows) mem rows table size v)
+    unfolding bringing led arrived
+    arrived-rows few triangle mem ready plain closed = by (keep brings (upTo size)) refl
+      where
+        brings : ℕ → Bool
+        brings i = eqb (sourceIn mem (rows + 4 * i) .vertex) v
 
-    news-kept : (left : ℕ) (mem : List ℕ) (row line : ℕ) → anyNews true left mem rows size v row line ≡ true
+        number : (i : ℕ) → List·Memᴰ i (upTo size) → i < size
+        number i h = omega (arith, countFrom-below 0 size i h)
+
+        rowMet : ℕ → List ℕ → Row
+        rowMet j = met (seenFrom j) (seenFrom j) showsIt (rowIn mem (rows + 4 * j))
+
+        needless : (j i : ℕ) → List·Memᴰ i (upTo size) → brings i ≡ false → (ys : List ℕ) → turned j i (rowMet j ys) ≡ rowMet j ys
+        needless j i h e ys =
+            ap (λ (b : Bool). cond b (nearer (seenFrom j i) (rowMet j ys)) (rowMet j ys)) (ap (λ (s : Row). eqb (s .vertex) v) (sym (ready .facts mem (kept-self rows size mem) .source i (number i h))) ∙ e)
+
+        all-met : (j : ℕ) → rowMet j (keep brings (upTo size)) ≡ rowMet j (upTo size)
+        all-met j = met-kept (seenFrom j) (seenFrom j) showsIt (rowIn mem (rows + 4 * j)) brings (upTo size) (needless j)
+
+        within : (i : ℕ) → List·Memᴰ i (keep brings (upTo size)) → i < size
+        within i h = number i (keep-says brings (upTo size) i h .0)
+
+        by : (numbers : List ℕ) → keep brings (upTo size) ≡ numbers → Rows (λ j. rowMet j (upTo size)) mem (arrived (led numbers mem rows) mem rows table size v)
+        by [] e = record { kept = kept-self rows size mem; shows = λ j h. ap (rowMet j) (sym e) ∙ all-met j }
+        by (n ∷ numbers) e =
+            let inside : (i : ℕ) → List·Memᴰ i (n ∷ numbers) → i < size = λ i h. within i (subst⁻¹ (λ (l : List ℕ). List·Memᴰ i l) e h) in
+            let first : ℕ = lead (n ∷ numbers) mem rows in
+            let hf : first < size = lead-within mem rows size few (omega (arith, inside n (List·Memᴰ·head refl))) (n ∷ numbers) inside in
+            let done =
+            arrived-at triangle (first ∷ n ∷ numbers) (λ i h. ⊎-elim (λ same. subst⁻¹ (λ (k : ℕ). k < size) same hf) (inside i) (List·Memᴰ·cases-cons h)) mem ready plain closed
+            in
+            record {
+              kept = done .kept;
+              shows =
+                  λ j h.
+                  done .shows j h
+                  ∙ ap (turned j first) (ap (rowMet j) (sym e) ∙ all-met j)
+                  ∙ met-again (seenFrom j) (seenFrom j) showsIt (rowIn mem (rows + 4 * j)) first (upTo size) (upTo-has size first hf);
+            }
+
+    news-kept : (numbers mem : List ℕ) → anyNews true numbers mem rows table size v ≡ true
     unfolding anyNews
-    news-kept zero mem row line = refl
-    news-kept (suc left) mem row line = by (isNews mem v row) (news-kept left (metIn mem rows size v row line) (row + 4) (line + size))
+    news-kept [] mem = refl
+    news-kept (i ∷ numbers) mem = by (isNews mem v (rows + 4 * i)) (news-kept numbers (metIn mem rows size v (rows + 4 * i) (table + size * i)))
       where
         next : List ℕ
-        next = metIn mem rows size v row line
+        next = metIn mem rows size v (rows + 4 * i) (table + size * i)
 
-        by : (b : Bool) → anyNews true left next rows size v (row + 4) (line + size) ≡ true → anyNews (b || true) left next rows size v (row + 4) (line + size) ≡ true
+        by : (b : Bool) → anyNews true numbers next rows table size v ≡ true → anyNews (b || true) numbers next rows table size v ≡ true
         by true later = later
         by false later = later
 
-    -- A departure. The list of sources holds each that is not empty, so gathering it is gathering all.
-    module _ (mem : List ℕ) (facts : Facts rows size table from far mem) where
-      -- entries before n stay
-      listed-before : (left : ℕ) (list : List ℕ) (row i n a : ℕ) → a < 3 * n → word (listed left list mem row i n) a ≡ word list a
-      unfolding listed noted notedCount
-      listed-before zero list row i n a h = refl
-      listed-before (suc left) list row i n a h = by (ltb (sourceIn mem row .distance) FAR) (λ next m low. listed-before left next (row + 4) (i + 1) m a low)
-        where
-          by : (b : Bool) → ((next : List ℕ) (m : ℕ) → a < 3 * m → word (listed left next mem (row + 4) (i + 1) m) a ≡ word next a)
-              → word (listed left (cond b (set (shown list (3 * n) (sourceIn mem row)) (3 * n + 2) i) list) mem (row + 4) (i + 1) (cond b (n + 1) n)) a ≡ word list a
-          by false later = later list n h
-          by true later =
-              later (set (shown list (3 * n) (sourceIn mem row)) (3 * n + 2) i) (n + 1) (omega arith)
-              ∙ getD-set-other (shown list (3 * n) (sourceIn mem row)) (3 * n + 2) a i 0 (omega arith)
-              ∙ shown-others list (3 * n) (sourceIn mem row) a (omega arith) (omega arith)
-
-      count-least : (left row n : ℕ) → n ≤ listedCount left mem row n
-      unfolding listedCount notedCount
-      count-least zero row n = omega arith
-      count-least (suc left) row n = by (ltb (sourceIn mem row .distance) FAR) (count-least left (row + 4) (n + 1)) (count-least left (row + 4) n)
-        where
-          by : (b : Bool) → n + 1 ≤ listedCount left mem (row + 4) (n + 1) → n ≤ listedCount left mem (row + 4) n → n ≤ listedCount left mem (row + 4) (cond b (n + 1) n)
-          by true more same = omega arith
-          by false more same = same
-
-      -- row j made anew from the sources from i on, which stand in the list from entry n on
-      module _ (j : ℕ) (hj : j < size) (after : List ℕ) (entry : (i : ℕ) → i < size → word after (table + (size * i + j)) ≡ far i j) where
-        abbrev anewFrom : ℕ → ℕ → Row → Row
-        anewFrom i left best = met (seenFrom j) (seenFrom j) (λ n. true) best (countFrom i left)
-
-        module _ (i left : ℕ) (best : Row) where
-          -- an empty source changes nothing
-          skipped : FAR ≤ from i .distance → Plain best → anewFrom (suc i) left best ≡ anewFrom i (suc left) best
-          unfolding onward
-          skipped none plain =
-              ap (λ (row : Row). anewFrom (suc i) left row) (sym (nearer-empty best plain) ∙ ap (λ (row : Row). nearer row best) (sym (rw (le-ltb (from i .distance + far i j) FAR (omega arith)))))
-              ∙ met-turn (seenFrom j) (seenFrom j) (λ n. true) best i (countFrom (suc i) left)
-
-          -- any other is compared
-          taken : (v x d : ℕ) → v ≡ from i .vertex → x ≡ from i .distance → d ≡ far i j → Plain best → anewFrom (suc i) left (offeredTo best v x d) ≡ anewFrom i (suc left) best
-          taken v x d p q r plain =
-              ap (λ (row : Row). anewFrom (suc i) left row) ((λ t. offeredTo best (p t) (q t) (r t)) ∙ offered-near best (from i .vertex) (from i .distance) (far i j) plain)
-              ∙ met-turn (seenFrom j) (seenFrom j) (λ n. true) best i (countFrom (suc i) left)
-
-        offered-plain : (i : ℕ) (best : Row) (v x d : ℕ) → v ≡ from i .vertex → x ≡ from i .distance → d ≡ far i j → Plain best → Plain (offeredTo best v x d)
-        offered-plain i best v x d p q r plain =
-            subst⁻¹ Plain ((λ t. offeredTo best (p t) (q t) (r t)) ∙ offered-near best (from i .vertex) (from i .distance) (far i j) plain)
-            (nearer-plain (seenFrom j i) best (onward-plain (from i) (far i j)) plain)
-
-        -- what is left to gather after source i
-        abbrev Later : ℕ → ℕ → ℕ → ℕ → Type 0
-        Later left i row number =
-            (next : List ℕ) (n k at : ℕ) (best : Row) → at ≡ 3 * n → 3 * (n + left) ≤ length next → n + k ≡ listedCount left mem row n → Plain best
-            → gathered k after (listed left next mem row number n) size (table + j) at best ≡ anewFrom i left best
-
-        module _ (left i : ℕ) (list : List ℕ) (row number n : ℕ) (hi : i < size) (p : row ≡ rows + 4 * i) (q : number ≡ i) (room : 3 * (n + suc left) ≤ length list) where
-          src : sourceIn mem row ≡ from i
-          src = ap (sourceIn mem) p ∙ facts .source i hi
-
-          next : List ℕ
-          next = noted list n (sourceIn mem row) number
-
-          count : ℕ
-          count = notedCount n (sourceIn mem row)
-
-          rest : List ℕ
-          rest = listed left next mem (row + 4) (number + 1) count
-
-          gathered-empty : (k at : ℕ) (best : Row) → FAR ≤ from i .distance → at ≡ 3 * n → n + k ≡ listedCount left mem (row + 4) count → Plain best → Later left (suc i) (row + 4) (number + 1)
-              → gathered k after rest size (table + j) at best ≡ anewFrom i (suc left) best
-          unfolding next count rest noted notedCount
-          gathered-empty k at best far s total plain later =
-              (λ t. gathered k after (listed left (same t) mem (row + 4) (number + 1) (still t)) size (table + j) at best)
-              ∙ later list n k at best s (omega arith) (total ∙ ap (listedCount left mem (row + 4)) still) plain
-              ∙ skipped i left best far plain
-            where
-              none : ltb (sourceIn mem row .distance) FAR ≡ false
-              none = ap (λ (r : Row). ltb (r .distance) FAR) src ∙ le-ltb (from i .distance) FAR far
-
-              same : next ≡ list
-              same = rw none
-
-              still : count ≡ n
-              still = rw none
-
-          module _ (near : from i .distance < FAR) where
-            some : ltb (sourceIn mem row .distance) FAR ≡ true
-            some = ap (λ (r : Row). ltb (r .distance) FAR) src ∙ lt-ltb (from i .distance) FAR near
-
-            written : next ≡ set (shown list (3 * n) (sourceIn mem row)) (3 * n + 2) number
-            unfolding next noted
-            written = rw some
-
-            more : count ≡ n + 1
-            unfolding count notedCount
-            more = rw some
-
-            -- entry n stays as it was written
-            stays : (a : ℕ) → a < 3 * n + 3 → word rest a ≡ word (set (shown list (3 * n) (sourceIn mem row)) (3 * n + 2) number) a
-            unfolding rest
-            stays a h = listed-before left next (row + 4) (number + 1) count a (omega (arith, more)) ∙ ap (λ (l : List ℕ). word l a) written
-
-            long : length next ≡ length list
-            long = ap length written ∙ length-set (shown list (3 * n) (sourceIn mem row)) (3 * n + 2) number ∙ shown-length list (3 * n) (sourceIn mem row)
-
-            of-row : (a : ℕ) → a < 3 * n + 2 → word rest a ≡ word (shown list (3 * n) (sourceIn mem row)) a
-            of-row a h = stays a (omega arith) ∙ getD-set-other (shown list (3 * n) (sourceIn mem row)) (3 * n + 2) a number 0 (omega arith)
-
-            row-written : rowIn (shown list (3 * n) (sourceIn mem row)) (3 * n) ≡ from i
-            row-written = shown-row list (3 * n) (sourceIn mem row) (omega arith) ∙ src
-
-            has-vertex : word rest (3 * n) ≡ from i .vertex
-            has-vertex = of-row (3 * n) (omega arith) ∙ ap (λ (r : Row). r .vertex) row-written
-
-            has-distance : word rest (3 * n + 1) ≡ from i .distance
-            has-distance = of-row (3 * n + 1) (omega arith) ∙ ap (λ (r : Row). r .distance) row-written
-
-            has-number : word rest (3 * n + 2) ≡ i
-            has-number =
-                stays (3 * n + 2) (omega arith)
-                ∙ getD-set-same (shown list (3 * n) (sourceIn mem row)) (3 * n + 2) number 0 (omega (arith, shown-length list (3 * n) (sourceIn mem row)))
-                ∙ q
-
-            has-entry : word after (table + j + word rest (3 * n + 2) * size) ≡ far i j
-            has-entry = ap (λ (w : ℕ). word after (table + j + w * size)) has-number ∙ ap (word after) (place (mul-comm i size)) ∙ entry i hi
-              where
-                place : i * size ≡ size * i → table + j + i * size ≡ table + (size * i + j)
-                place e = omega arith
-
-            gathered-next : (k at : ℕ) (best : Row) → at ≡ 3 * n → n + k ≡ listedCount left mem (row + 4) count → Plain best → Later left (suc i) (row + 4) (number + 1)
-                → gathered k after rest size (table + j) at best ≡ anewFrom i (suc left) best
-            unfolding gathered rest
-            gathered-next zero at best s total plain later = absurd (omega (arith, total, count-least left (row + 4) count, more))
-            gathered-next (suc k) at best s total plain later =
-                later next count k (at + 3) (offeredTo best (word rest at) (word rest (at + 1)) (word after (table + j + word rest (at + 2) * size))) (omega (arith, more)) (omega (arith, more, long))
-                (omega (arith, more, total)) (offered-plain i best (word rest at) (word rest (at + 1)) (word after (table + j + word rest (at + 2) * size)) is-vertex is-distance is-entry plain)
-                ∙ taken i left best (word rest at) (word rest (at + 1)) (word after (table + j + word rest (at + 2) * size)) is-vertex is-distance is-entry plain
-              where
-                is-vertex : word rest at ≡ from i .vertex
-                is-vertex = ap (word rest) s ∙ has-vertex
-
-                is-distance : word rest (at + 1) ≡ from i .distance
-                is-distance = ap (λ (a : ℕ). word rest (a + 1)) s ∙ has-distance
-
-                is-entry : word after (table + j + word rest (at + 2) * size) ≡ far i j
-                is-entry = ap (λ (a : ℕ). word after (table + j + word rest (a + 2) * size)) s ∙ has-entry
-
-        gathered-from : (left i : ℕ) (list : List ℕ) (row number n k at : ℕ) (best : Row) → i + left ≡ size → row ≡ rows + 4 * i → number ≡ i → at ≡ 3 * n → 3 * (n + left) ≤ length list
-            → n + k ≡ listedCount left mem row n → Plain best
-            → gathered k after (listed left list mem row number n) size (table + j) at best ≡ anewFrom i left best
-        unfolding listed listedCount gathered rest next count
-        gathered-from zero i list row number n zero at best all p q s room total plain = refl
-        gathered-from zero i list row number n (suc k) at best all p q s room total plain = absurd (omega arith)
-        gathered-from (suc left) i list row number n k at best all p q s room total plain =
-            elim (decLt (from i .distance) FAR) [
-              | yes near ↦ gathered-next left i list row number n (omega arith) p q room near k at best s total plain
-                  (λ l m a b c e r g h. gathered-from left (suc i) l (row + 4) (number + 1) m a b c (omega arith) (omega arith) (omega arith) e r g h)
-              | no far ↦ gathered-empty left i list row number n (omega arith) p q room k at best (omega (arith, far)) s total plain
-                  (λ l m a b c e r g h. gathered-from left (suc i) l (row + 4) (number + 1) m a b c (omega arith) (omega arith) (omega arith) e r g h)
-            ]
-
-    -- the row i made anew
-    abbrev pub anew : ℕ → Row
-    anew i = met (seenFrom i) (seenFrom i) (λ n. true) emptyRow (countFrom 0 size)
-
-    -- a row after it was looked at: made anew if it showed v
-    abbrev pub leftBy : ℕ → Row → Row
-    leftBy i row = cond (eqb (row .vertex) v) (anew i) row
-
-    -- a list from which each row is gathered, whatever the part's own rows show
-    abbrev Gathers : List ℕ → List ℕ → ℕ → Type 0
-    Gathers mem list count = (after : List ℕ) → Kept rows size mem after → (j : ℕ) → j < size → gathered count after list size (table + j) 0 emptyRow ≡ anew j
-
-    module _ (first list : List ℕ) (count : ℕ) (gathers : Gathers first list count) where
-      abbrev Renewed : ℕ → List ℕ → List ℕ → Type 0
-      Renewed i mem after = OneRow rows size i mem after × (rowIn after (rows + 4 * i) ≡ leftBy i (rowIn mem (rows + 4 * i)))
-
-      renewed-row : (i : ℕ) → i < size → (mem : List ℕ) (row column : ℕ) → row ≡ rows + 4 * i → column ≡ table + i → rows + 4 * size ≤ length mem → Kept rows size first mem
-          → Renewed i mem (renewed mem list count size v row column)
-      unfolding renewed
-      renewed-row i hi mem row column p q fits kept =
-          subst⁻¹ (λ (k : ℕ). Renewed i mem (cond (eqb (word mem k) v) (shown mem k (gathered count mem list size column 0 emptyRow)) mem)) p
-          (subst⁻¹ (λ (best : Row). Renewed i mem (cond (eqb (word mem (rows + 4 * i)) v) (shown mem (rows + 4 * i) best) mem)) made (by (eqb (word mem (rows + 4 * i)) v)))
-        where
-          made : gathered count mem list size column 0 emptyRow ≡ anew i
-          made = ap (λ (c : ℕ). gathered count mem list size c 0 emptyRow) q ∙ gathers mem kept i hi
-
-          by : (b : Bool) → OneRow rows size i mem (cond b (shown mem (rows + 4 * i) (anew i)) mem)
-              × (rowIn (cond b (shown mem (rows + 4 * i) (anew i)) mem) (rows + 4 * i) ≡ cond b (anew i) (rowIn mem (rows + 4 * i)))
-          by true = (one-shown rows size i hi mem (anew i), shown-row mem (rows + 4 * i) (anew i) (omega arith))
-          by false = (one-self rows size i hi mem, refl)
-
-      -- v departed: the rows from i on were looked at
-      departed-from : (left i : ℕ) (mem : List ℕ) (row column : ℕ) → i + left ≡ size → row ≡ rows + 4 * i → column ≡ table + i → rows + 4 * size ≤ length mem → Kept rows size first mem
-          → Swept leftBy i mem (departed left mem list count size v row column)
-      unfolding departed
-      departed-from zero i mem row column all p q fits kept = swept-none leftBy mem i (omega arith)
-      departed-from (suc left) i mem row column all p q fits kept =
-          let one = renewed-row i (omega arith) mem row column p q fits kept in
-          let middle : List ℕ = renewed mem list count size v row column in
-          swept-step leftBy i mem middle (departed left middle list count size v (row + 4) (column + 1)) (one .0) (one .1)
-          (departed-from left (suc i) middle (row + 4) (column + 1) (omega arith) (omega arith) (omega arith) (omega (arith, one .0 .kept .long)) (kept-trans rows size kept (one .0 .kept)))
-
-    pub departed-rows : size ≤ 128 → (mem : List ℕ) → Ready rows size table from far mem
-        → Rows (λ j. leftBy j (rowIn mem (rows + 4 * j))) mem (departed size mem (sources mem rows size) (sourceCount mem rows size) size v rows table)
-    unfolding sources sourceCount
-    departed-rows few mem ready =
-        let whole =
-        departed-from mem (listed size (replicate 384 0) mem rows 0 0) (listedCount size mem rows 0) gathers size 0 mem rows table (omega arith) (omega arith) (omega arith) (ready .fits) (kept-self rows size mem)
-        in
-        record { kept = whole .kept; shows = λ j h. whole .shows j (omega arith) h }
-      where
-        gathers : Gathers mem (listed size (replicate 384 0) mem rows 0 0) (listedCount size mem rows 0)
-        gathers after kept j hj =
-            gathered-from mem (ready .facts mem (kept-self rows size mem)) j hj after (λ i hi. ready .facts after kept .entry i j hi hj) size 0 (replicate 384 0) rows 0 0 (listedCount size mem rows 0) 0 emptyRow
-            (omega arith) (omega arith) refl (omega arith) (omega (arith, length-replicate {A = ℕ} 384 0)) (omega arith) (inl refl)
-
     -- No source was offered: the memory is as it was.
-    pub arrived-none : (left : ℕ) (mem : List ℕ) (row line : ℕ) → anyNews false left mem rows size v row line ≡ false → arrived left mem rows size v row line ≡ mem
+    pub arrived-none : (numbers mem : List ℕ) → anyNews false numbers mem rows table size v ≡ false → arrived numbers mem rows table size v ≡ mem
     unfolding arrived anyNews metIn
-    arrived-none zero mem row line e = refl
-    arrived-none (suc left) mem row line e = by (isNews mem v row) refl e (arrived-none left mem (row + 4) (line + size))
+    arrived-none [] mem e = refl
+    arrived-none (i ∷ numbers) mem e = by (isNews mem v (rows + 4 * i)) refl e (arrived-none numbers mem)
       where
-        by : (b : Bool) → isNews mem v row ≡ b
-            → anyNews (b || false) left (cond b (spread size mem rows line v (sourceIn mem row .distance)) mem) rows size v (row + 4) (line + size) ≡ false
-            → (anyNews false left mem rows size v (row + 4) (line + size) ≡ false → arrived left mem rows size v (row + 4) (line + size) ≡ mem)
-            → arrived left (cond b (spread size mem rows line v (sourceIn mem row .distance)) mem) rows size v (row + 4) (line + size) ≡ mem
-        by true f g later = absurd (true≢false (sym (news-kept left (spread size mem rows line v (sourceIn mem row .distance)) (row + 4) (line + size)) ∙ g))
+        spreads : List ℕ
+        spreads = spread size mem rows (table + size * i) v (sourceIn mem (rows + 4 * i) .distance)
+
+        by : (b : Bool) → isNews mem v (rows + 4 * i) ≡ b → anyNews (b || false) numbers (cond b spreads mem) rows table size v ≡ false
+            → (anyNews false numbers mem rows table size v ≡ false → arrived numbers mem rows table size v ≡ mem) → arrived numbers (cond b spreads mem) rows table size v ≡ mem
+        by true f g later = absurd (true≢false (sym (news-kept numbers spreads) ∙ g))
         by false f g later = later g

@@ -29,7 +29,7 @@ use Rattle.row_changes.proofs.Switch.{switch-elsewhere}
 use Rattle.row_changes.proofs.Early.{unseen-rows, above-unchanged}
 use Rattle.row_refresh.specs.Model.{partAt, refreshed, touched, refreshedUp}
 use Rattle.row_memory.specs.Kept.{Outside, Kept}
-use Rattle.row_memory.specs.Laid.{FewRows, Laid, RowsShow}
+use Rattle.row_memory.specs.Laid.{Few, Laid, RowsShow}
 use Rattle.row_memory.specs.Refreshed.{Refreshed}
 use Rattle.row_memory.proofs.Levels.{level-falls, level-some}
 use Rattle.row_memory.proofs.Genuine.{laid-kept, others-kept, row-in, untouched, arrived-here, departed-here}
@@ -53,13 +53,13 @@ record Climbing (m : Map) (v : ℕ) (before after : ℕ → Bool) (p : ℕ) (mem
   ahead : (q : ℕ) → q < partCount m → holds m q v ≡ true → q ≤ p → RowsShow m before mem q
   behind : (q : ℕ) → q < partCount m → (holds m q v ≡ false) ⊎ (p < q) → RowsShow m after mem q
 
-module _ (m : Map) (net : Net m) (tree : Tree m) (few : FewRows m) (v : ℕ) (hv : v < m .vertices) (before after : ℕ → Bool) where
+module _ (m : Map) (net : Net m) (tree : Tree m) (few : Few m) (v : ℕ) (hv : v < m .vertices) (before after : ℕ → Bool) where
   one-part : (is : Bool) → Switched v is before after → (p : ℕ) → p < partCount m → holds m p v ≡ true → (mem : List ℕ) → Climbing m v before after p mem
       → Kept (firstRowOf m p) (sizeOf m p) mem (refreshed mem p v is) × RowsShow m after (refreshed mem p v is) p
   one-part true switch p hp inside mem c =
-      arrived-here m net tree p hp v hv before after (few p hp) mem (c .laid) (λ k hk above. c .behind k hk (inr above)) (c .ahead p hp inside (omega arith)) switch
+      arrived-here m net tree p hp v hv before after few mem (c .laid) (λ k hk above. c .behind k hk (inr above)) (c .ahead p hp inside (omega arith)) switch
   one-part false switch p hp inside mem c =
-      departed-here m net tree p hp v hv before after (few p hp) mem (c .laid) (λ k hk above. c .behind k hk (inr above)) (c .ahead p hp inside (omega arith)) switch
+      departed-here m net tree p hp v hv before after few mem (c .laid) (λ k hk above. c .behind k hk (inr above)) (c .ahead p hp inside (omega arith)) switch
 
   -- a part that holds v and stands at no higher number than p, which holds v too, is p or stands above it
   above-it : (p q : ℕ) → p < partCount m → holds m p v ≡ true → holds m q v ≡ true → q < p → Above m q p
@@ -177,7 +177,7 @@ module _ (m : Map) (net : Net m) (tree : Tree m) (few : FewRows m) (v : ℕ) (hv
         by (yes root) true e done later = rw (le-ltb (word now (partAt p)) p (omega (arith, root))) (last p hp inside mem now c (done .0) (done .1) root)
         by (no inner) false e done later =
             still p hp inside mem now c (done .0) (done .1) switch
-            (untouched m net tree p hp v hv before after (few p hp) mem (c .laid) (λ k hk above. c .behind k hk (inr above)) (c .ahead p hp inside (omega arith)) is e) inner
+            (untouched m net tree p hp v hv before after few mem (c .laid) (λ k hk above. c .behind k hk (inr above)) (c .ahead p hp inside (omega arith)) is e) inner
         by (no inner) true e done later =
             subst⁻¹ (λ (k : ℕ). Refreshed m after mem (cond (ltb k p) (refreshedUp left now k v is) now)) parent
             (rw (lt-ltb (parentOf m p) p lower)

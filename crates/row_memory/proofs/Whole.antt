@@ -32,20 +32,24 @@ use Rattle.image.proofs.Records.{vertices-start, roads-start, vans-start, table
 use Rattle.row_changes.specs.Switch.{Switched}
 use Rattle.row_refresh.specs.Model.{rowIn, shown, partAt, refreshedUp, vertexAt, ownRow, switched}
 use Rattle.row_memory.specs.Old.{RowsOld}
-use Rattle.row_memory.specs.Laid.{FewRows, Laid, RowsShow}
+use Rattle.row_memory.specs.Laid.{Few, Laid, RowsShow}
 use Rattle.row_memory.specs.Refreshed.{Refreshed}
 use Rattle.row_memory.proofs.Apart.{rows-first, table-before, part-before, itself-before, early, beside}
 use Rattle.row_memory.proofs.Offered.{shown-row, shown-others, shown-length}
 use Rattle.row_memory.proofs.Up.{refreshed-up}
 
 -- a sound map has few rows in each part
-few-rows : (m : Map) → Sound m → FewRows m
+few-rows : (m : Map) → Sound m → (p : ℕ) → p < partCount m → sizeOf m p ≤ 128
 unfolding sizeOf rowVertices
 few-rows m sound p hp = by (isLeaf m p) refl
   where
     by : (leaf : Bool) → isLeaf m p ≡ leaf → length (cond leaf (verticesOf m p) (borders m p)) ≤ 128
     by true e = let most = sound .part p hp .leaf e .1 in omega arith
     by false e = sound .part p hp .borders e
+
+-- and few vertices
+few : (m : Map) → Sound m → Few m
+few m sound = record { vertices = sound .vertices .1; rows = few-rows m sound }
 
 -- The image shows what it must.
 module _ (m : Map) (s : State) (slots : length (s .vans) ≡ vans) where
@@ -277,5 +281,5 @@ module _ (m : Map) (s t : State) (slots : length (s .vans) ≡ vans) (slots′ :
       image-switched sound =
           (λ i. refreshedUp 16 (shown mem (own-at i) (ownRow v is)) (leaf-word i) v is)
           ∙ is-image m s t slots slots′ written half-written (refreshedUp 16 written (leafOf m v) v is)
-          (refreshed-up m (sound-net m sound) (sound-tree m sound) (few-rows m sound) v hv (active m s) (active m t) is switch 16 (sound .part (leafOf m v) (sound .vertex v hv .0) .level) written
+          (refreshed-up m (sound-net m sound) (sound-tree m sound) (few m sound) v hv (active m s) (active m t) is switch 16 (sound .part (leafOf m v) (sound .vertex v hv .0) .level) written
           (half-laid m s t slots slots′ written half-written) (half-rows m s t slots slots′ written half-written))

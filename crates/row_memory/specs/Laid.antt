@@ -4,7 +4,7 @@ use mathlib.Core.Bool.{Bool}
 use mathlib.Core.List.{List}
 use Prim.Native.Nat.{ℕ, _+_, _*_, _≤_, _<_}
 use lib.ListN.{length}
-use Rattle.words.specs.Limits.{mostBorders}
+use Rattle.words.specs.Limits.{mostVertices, mostBorders}
 use Rattle.words.specs.Lists.{word}
 use Rattle.roads.specs.Map.{Map, partCount}
 use Rattle.roads.specs.Dist.{dist}
@@ -16,9 +16,10 @@ use Rattle.image.specs.Image.{rowBelow}
 use Rattle.image.specs.Records.{rowVertex}
 use Rattle.row_refresh.specs.Model.{rowIn, partAt}
 
--- no part has more rows than a sound map allows
-abbrev pub FewRows : Map → Type 0
-FewRows m = (p : ℕ) → p < partCount m → sizeOf m p ≤ mostBorders
+-- no part has more rows, and the map no more vertices, than a sound map allows
+pub record Few (m : Map) : Type 0 where
+  pub vertices : m .vertices ≤ mostVertices
+  pub rows : (p : ℕ) → p < partCount m → sizeOf m p ≤ mostBorders
 
 -- The words that the refresh of a part's rows reads and never changes; `isActive` says which vertices are active.
 pub record Laid (m : Map) (isActive : ℕ → Bool) (mem : List ℕ) : Type 0 where

@@ -2,30 +2,29 @@
 -- Assumes nothing.
 use mathlib.Core.Path.{_≡_, refl, sym, _∙_, ap}
 use mathlib.Core.Bool.{Bool, true, false, _||_, _&&_, cond}
-use mathlib.Core.List.{List}
+use mathlib.Core.List.{List, [], _∷_, map, List·Memᴰ, List·Memᴰ·head, List·Memᴰ·tail}
 use mathlib.Core.Logic.{inl, inr}
 use Prim.Native.Nat.{ℕ, zero, suc, _+_, _-_, _*_, _/_, _%_, _≤_, _<_}
 use native.Mathlib.Nat.{mul-suc, mul-le-mul-left}
 use native.Mathlib.Decide.{ℕ-discrete, decLt}
+use native.Mathlib.Numerals.{add-one}
 use native.Mathlib.Omega.{arith}
-use lib.ListN.{length, getD, set, replicate}
+use lib.ListN.{length, getD, set, drop, drop-of-length-le}
+use lib.Seq.{drop-cons}
 use lib.Dec.{eqb, ltb, leb}
 use borrow.Author.Tests.{lt-ltb, le-ltb, eq-eqb, ne-eqb, le-leb, lt-leb}
 use Rattle.words.specs.Limits.{FAR}
 use Rattle.words.proofs.Tests.{PairBefore, pair-if}
 use Rattle.rows.specs.declared.Row.{Row}
 use Rattle.rows.specs.Row.{emptyRow, comesBefore}
-use Rattle.row_refresh.specs.Model.{rowIn, shown, sourceIn, improves, offeredTo, offered, placed, unplaced, placedSeen, spread, isNews, met, arrived, anyNews, anyShows, noted, notedCount, listed, listedCount, sources, sourceCount, gathered, renewed, departed, partAt, rowsHere, fits, changed, touches, refreshed, touched, refreshedUp, vertexAt, ownRow, switched}
-
--- one line less of a table
-pub line-less : (size left n : ℕ) → left ≡ suc n → size * left ≡ size * n + size
-line-less size left n e = ap (λ (k : ℕ). size * k) e ∙ mul-suc size n
+use Rattle.row_refresh.specs.Model.{rowIn, shown, sourceIn, improves, offeredTo, offered, placed, unplaced, placedSeen, spread, isNews, met, arrived, anyNews, bringing, leadFrom, lead, led, showing, filled, farKey, unkeyed, sourceKey, lesser, gathered, renewed, departed, partAt, rowsHere, fits, changed, touches, refreshed, touched, refreshedUp, vertexAt, ownRow, switched}
 
 pub square-most : (n : ℕ) → n ≤ 128 → n * n ≤ 16384
 square-most n h = omega (arith, mul-le-mul-left {m = n} {n = 128} n h)
 
-pub times-most : (w n : ℕ) → n ≤ 128 → w * n ≤ w * 128
-times-most w n h = mul-le-mul-left {m = n} {n = 128} w h
+-- a line of a table
+pub line-within : (size i : ℕ) → i < size → size * i + size ≤ size * size
+line-within size i h = omega (arith, mul-suc size i, mul-le-mul-left {m = suc i} {n = size} size (omega arith))
 
 module _ (mem : List ℕ) where
   pub row-is : (at a b : ℕ) (row : Row) → (row .vertex ≡ a) × (row .distance ≡ b) → a ≡ getD mem at 0 → b ≡ getD mem (at + 1) 0 → row ≡ rowIn mem at
@@ -46,6 +45,24 @@ placed-row v d small =
     let a : (placed v d % 4294967296 ≡ v) = omega arith in
     let b : (placed v d / 4294967296 ≡ d) = omega arith in
     λ t. record { vertex = a t; distance = b t }
+
+-- of two rows the one that comes before has the lesser
+pub placed-before : (a b : Row) → a .vertex < 4294967296 → b .vertex < 4294967296 → ltb (placed (a .vertex) (a .distance)) (placed (b .vertex) (b .distance)) ≡ comesBefore a b
+placed-before a b small small′ = by (decLt (placed (a .vertex) (a .distance)) (placed (b .vertex) (b .distance)))
+  where
+    before : placed (a .vertex) (a .distance) < placed (b .vertex) (b .distance) → Dec (a .distance < b .distance) → PairBefore (a .distance) (a .vertex) (b .distance) (b .vertex)
+    before less (yes nearer) = inl nearer
+    before less (no tie) = inr (omega (arith, tie), omega (arith, tie))
+
+    tie : placed (b .vertex) (b .distance) ≤ placed (a .vertex) (a .distance) → Dec (a .distance ≡ b .distance) → false ≡ (eqb (a .distance) (b .distance) && ltb (a .vertex) (b .vertex))
+    tie most (yes same) = rw (eq-eqb (a .distance) (b .distance) same, le-ltb (a .vertex) (b .vertex) (omega arith))
+    tie most (no other) = rw (ne-eqb (a .distance) (b .distance) other)
+
+    by : Dec (placed (a .vertex) (a .distance) < placed (b .vertex) (b .distance)) → ltb (placed (a .vertex) (a .distance)) (placed (b .vertex) (b .distance)) ≡ comesBefore a b
+    by (yes less) = lt-ltb (placed (a .vertex) (a .distance)) (placed (b .vertex) (b .distance)) less ∙ sym (pair-if (a .distance) (a .vertex) (b .distance) (b .vertex) (before less (decLt (a .distance) (b .distance))))
+    by (no most) =
+        le-ltb (placed (a .vertex) (a .distance)) (placed (b .vertex) (b .distance)) (omega (arith, most))
+        ∙ rw (le-ltb (a .distance) (b .distance) (omega (arith, most))) (tie (omega (arith, most)) (ℕ-discrete (a .distance) (b .distance)))
 
 -- An offer.
 module _ (v x d : ℕ) where
@@ -124,130 +141,158 @@ module _ (mem : List ℕ) (v row : ℕ) (s : Row) (e : s ≡ sourceIn mem row) w
     unfolding met
     met-no none = (rw none, rw none)
 
-pub arrived-turn : (n left : ℕ) (mem end : List ℕ) (rows size v row line : ℕ) → left ≡ suc n → end ≡ met mem rows size v row line
-    → arrived n end rows size v (row + 4) (line + size) ≡ arrived left mem rows size v row line
-unfolding arrived
-arrived-turn n left mem end rows size v row line e q = rw e (ap (λ (l : List ℕ). arrived n l rows size v (row + 4) (line + size)) q)
+module _ (numbers : List ℕ) (k : ℕ) (h : k < length numbers) (mem end : List ℕ) (rows table size v i : ℕ) (p : i ≡ getD numbers k 0) (q : end ≡ met mem rows size v (rows + 4 * i) (table + size * i)) where
+  pub arrived-turn : arrived (drop (k + 1) numbers) end rows table size v ≡ arrived (drop k numbers) mem rows table size v
+  unfolding arrived
+  arrived-turn =
+      (λ t. arrived (drop (add-one k t) numbers) ((q ∙ ap (λ (j : ℕ). met mem rows size v (rows + 4 * j) (table + size * j)) p) t) rows table size v)
+      ∙ ap (λ (l : List ℕ). arrived l mem rows table size v) (sym (drop-cons numbers k 0 h))
 
-pub arrived-done : (left : ℕ) (mem : List ℕ) (rows size v row line : ℕ) → left ≤ 0 → arrived left mem rows size v row line ≡ mem
-unfolding arrived
-arrived-done zero mem rows size v row line none = refl
-arrived-done (suc n) mem rows size v row line none = absurd (omega arith)
+  pub news-turn : (any now : Bool) → now ≡ (isNews mem v (rows + 4 * i) || any) → anyNews now (drop (k + 1) numbers) end rows table size v ≡ anyNews any (drop k numbers) mem rows table size v
+  unfolding anyNews
+  news-turn any now r =
+      (λ t. anyNews ((r ∙ ap (λ (j : ℕ). isNews mem v (rows + 4 * j) || any) p) t) (drop (add-one k t) numbers) ((q ∙ ap (λ (j : ℕ). met mem rows size v (rows + 4 * j) (table + size * j)) p) t) rows table size v)
+      ∙ ap (λ (l : List ℕ). anyNews any l mem rows table size v) (sym (drop-cons numbers k 0 h))
 
-pub news-turn : (n left : ℕ) (mem end : List ℕ) (rows size v row line : ℕ) (any now : Bool) → left ≡ suc n → end ≡ met mem rows size v row line → now ≡ (isNews mem v row || any)
-    → anyNews now n end rows size v (row + 4) (line + size) ≡ anyNews any left mem rows size v row line
-unfolding anyNews
-news-turn n left mem end rows size v row line any now e q r = rw e (λ t. anyNews (r t) n (q t) rows size v (row + 4) (line + size))
+module _ (numbers : List ℕ) (k : ℕ) (h : length numbers ≤ k) (mem : List ℕ) (rows table size v : ℕ) where
+  pub arrived-done : arrived (drop k numbers) mem rows table size v ≡ mem
+  unfolding arrived
+  arrived-done = ap (λ (l : List ℕ). arrived l mem rows table size v) (drop-of-length-le numbers h)
 
-pub news-done : (any : Bool) (left : ℕ) (mem : List ℕ) (rows size v row line : ℕ) → left ≤ 0 → anyNews any left mem rows size v row line ≡ any
-unfolding anyNews
-news-done any zero mem rows size v row line none = refl
-news-done any (suc n) mem rows size v row line none = absurd (omega arith)
+  pub news-done : (any : Bool) → anyNews any (drop k numbers) mem rows table size v ≡ any
+  unfolding anyNews
+  news-done any = ap (λ (l : List ℕ). anyNews any l mem rows table size v) (drop-of-length-le numbers h)
 
--- The rows that show v.
-module _ (left n : ℕ) (mem : List ℕ) (v row : ℕ) (e : left ≡ suc n) where
-  pub shows-here : getD mem row 0 ≡ v → true ≡ anyShows left mem v row
-  unfolding anyShows
-  shows-here same = rw (e, eq-eqb (getD mem row 0) v same)
+-- The number of a row whose source is the nearest.
+module _ (mem : List ℕ) (rows : ℕ) where
+  pub lead-turn : (numbers : List ℕ) (k i place best next : ℕ) (s : Row) → k < length numbers → i ≡ getD numbers k 0 → s ≡ sourceIn mem (rows + 4 * i) → place ≡ placed (getD numbers k 0) (s .distance) → next ≡ lesser best place
+      → leadFrom (drop (k + 1) numbers) mem rows next ≡ leadFrom (drop k numbers) mem rows best
+  unfolding leadFrom
+  lead-turn numbers k i place best next s h p q r e =
+      (λ t. leadFrom (drop (add-one k t) numbers) mem rows ((e ∙ ap (lesser best) (r ∙ ap (λ (x : Row). placed (getD numbers k 0) (x .distance)) (q ∙ ap (λ (j : ℕ). sourceIn mem (rows + 4 * j)) p))) t))
+      ∙ ap (λ (l : List ℕ). leadFrom l mem rows best) (sym (drop-cons numbers k 0 h))
 
-  pub shows-turn : (getD mem row 0 ≡ v → ⊥) → anyShows n mem v (row + 4) ≡ anyShows left mem v row
-  unfolding anyShows
-  shows-turn other = rw (e, ne-eqb (getD mem row 0) v other)
+  pub lead-done : (numbers : List ℕ) (k best : ℕ) → length numbers ≤ k → leadFrom (drop k numbers) mem rows best ≡ best
+  unfolding leadFrom
+  lead-done numbers k best h = ap (λ (l : List ℕ). leadFrom l mem rows best) (drop-of-length-le numbers h)
 
-pub shows-done : (left : ℕ) (mem : List ℕ) (v row : ℕ) → left ≤ 0 → anyShows left mem v row ≡ false
-unfolding anyShows
-shows-done zero mem v row none = refl
-shows-done (suc n) mem v row none = absurd (omega arith)
+  -- it is one of these, or 0
+  lead-from : (size : ℕ) → size ≤ 128 → (numbers : List ℕ) → ((i : ℕ) → List·Memᴰ i numbers → i < size) → (best : ℕ) → best % 4294967296 < size → leadFrom numbers mem rows best % 4294967296 < size
+  unfolding leadFrom lesser
+  lead-from size few [] within best h = h
+  lead-from size few (i ∷ numbers) within best h = lead-from size few numbers (λ j k. within j (List·Memᴰ·tail k)) (cond (ltb new best) new best) (by (ltb new best))
+    where
+      d : ℕ
+      d = sourceIn mem (rows + 4 * i) .distance
 
--- The list of sources.
-module _ (list : List ℕ) (n : ℕ) (s : Row) (i : ℕ) where
-  pub noted-some : (middle end : List ℕ) → s .distance < FAR → middle ≡ shown list (3 * n) s → end ≡ set middle (3 * n + 2) i → (end ≡ noted list n s i) × (n + 1 ≡ notedCount n s) × (n + 1 ≤ n + 1)
-  unfolding noted notedCount
-  noted-some middle end near p q = (
-    rw (lt-ltb (s .distance) FAR near) (q ∙ ap (λ (l : List ℕ). set l (3 * n + 2) i) p),
-    rw (lt-ltb (s .distance) FAR near),
-    omega arith,
-  )
+      new : ℕ
+      new = placed i d
 
-  pub noted-none : FAR ≤ s .distance → (list ≡ noted list n s i) × (n ≡ notedCount n s) × (n ≤ n + 1)
-  unfolding noted notedCount
-  noted-none far = (rw (le-ltb (s .distance) FAR far), rw (le-ltb (s .distance) FAR far), omega arith)
+      here : placed i d % 4294967296 < size
+      here = let small : i < size = within i (List·Memᴰ·head refl) in omega arith
 
-module _ (k left : ℕ) (list end mem : List ℕ) (row i n next : ℕ) (s : Row) (e : left ≡ suc k) (p : s ≡ sourceIn mem row) where
-  pub listed-turn : end ≡ noted list n s i → next ≡ notedCount n s → listed k end mem (row + 4) (i + 1) next ≡ listed left list mem row i n
-  unfolding listed
-  listed-turn q r = rw e (λ t. listed k ((q ∙ ap (λ (x : Row). noted list n x i) p) t) mem (row + 4) (i + 1) ((r ∙ ap (notedCount n) p) t))
+      by : (b : Bool) → cond b new best % 4294967296 < size
+      by true = here
+      by false = h
 
-  pub count-turn : next ≡ notedCount n s → listedCount k mem (row + 4) next ≡ listedCount left mem row n
-  unfolding listedCount
-  count-turn r = rw e (ap (listedCount k mem (row + 4)) (r ∙ ap (notedCount n) p))
+  pub lead-within : (size : ℕ) → size ≤ 128 → 0 < size → (numbers : List ℕ) → ((i : ℕ) → List·Memᴰ i numbers → i < size) → lead numbers mem rows < size
+  lead-within size few some numbers within = lead-from size few numbers within (placed 0 FAR) some
 
-pub listed-done : (left : ℕ) (list mem : List ℕ) (row i n : ℕ) → left ≤ 0 → listed left list mem row i n ≡ list
-unfolding listed
-listed-done zero list mem row i n none = refl
-listed-done (suc k) list mem row i n none = absurd (omega arith)
+pub led-arrived : (numbers mem middle end : List ℕ) (rows table size v i : ℕ) (any after : Bool) → i ≡ lead numbers mem rows
+    → (middle ≡ met mem rows size v (rows + 4 * i) (table + size * i)) × (any ≡ (isNews mem v (rows + 4 * i) || false))
+    → (end ≡ arrived numbers middle rows table size v) × (after ≡ anyNews any numbers middle rows table size v)
+    → (end ≡ arrived (lead numbers mem rows ∷ numbers) mem rows table size v) × (after ≡ anyNews false (lead numbers mem rows ∷ numbers) mem rows table size v)
+unfolding arrived anyNews
+led-arrived numbers mem middle end rows table size v i any after p q r = (
+  r .0 ∙ ap (λ (l : List ℕ). arrived numbers l rows table size v) (q .0 ∙ first),
+  r .1 ∙ λ t. anyNews ((q .1 ∙ ap (λ (j : ℕ). isNews mem v (rows + 4 * j) || false) p) t) numbers ((q .0 ∙ first) t) rows table size v,
+)
+  where
+    first : met mem rows size v (rows + 4 * i) (table + size * i) ≡ met mem rows size v (rows + 4 * lead numbers mem rows) (table + size * lead numbers mem rows)
+    first = ap (λ (j : ℕ). met mem rows size v (rows + 4 * j) (table + size * j)) p
 
-pub count-done : (left : ℕ) (mem : List ℕ) (row n : ℕ) → left ≤ 0 → listedCount left mem row n ≡ n
-unfolding listedCount
-count-done zero mem row n none = refl
-count-done (suc k) mem row n none = absurd (omega arith)
+-- A key.
+pub lesser-taken : (a b : ℕ) → b < a → b ≡ lesser a b
+unfolding lesser
+lesser-taken a b h = rw (lt-ltb b a h)
 
-pub gathered-turn : (n left : ℕ) (mem list : List ℕ) (size column from u w d : ℕ) (best next : Row) → left ≡ suc n → u ≡ getD list (from + 2) 0 → w ≡ u → d ≡ getD mem (column + w * size) 0
-    → next ≡ offeredTo best (getD list from 0) (getD list (from + 1) 0) d → gathered n mem list size column (from + 3) next ≡ gathered left mem list size column from best
+pub lesser-left : (a b : ℕ) → a ≤ b → a ≡ lesser a b
+unfolding lesser
+lesser-left a b h = rw (le-ltb b a h)
+
+pub key-near : (key a b : ℕ) (row : Row) → key < farKey → (row .vertex ≡ a) × (row .distance ≡ b) → a ≡ key % 65536 → b ≡ key / 65536 → row ≡ unkeyed key
+unfolding unkeyed
+key-near key a b row near e p q = rw (lt-ltb key farKey near) (let v = e .0 ∙ p in let d = e .1 ∙ q in λ t. record { vertex = v t; distance = d t })
+
+pub key-far : (key : ℕ) (row : Row) → farKey ≤ key → row ≡ emptyRow → row ≡ unkeyed key
+unfolding unkeyed
+key-far key row far e = rw (le-ltb key farKey far) e
+
+-- The keys gathered, and the rows made anew of them.
+pub gathered-turn : (keys steps mem : List ℕ) (column k best seen next : ℕ) → k < length keys → k < length steps → seen ≡ getD keys k 0 + getD mem (column + getD steps k 0) 0 * 65536 → next ≡ lesser best seen
+    → gathered (drop (k + 1) keys) (drop (k + 1) steps) mem column next ≡ gathered (drop k keys) (drop k steps) mem column best
 unfolding gathered
-gathered-turn n left mem list size column from u w d best next e o p q r =
-    rw e (ap (λ (k : Row). gathered n mem list size column (from + 3) k) (r ∙ ap (offeredTo best (getD list from 0) (getD list (from + 1) 0)) (q ∙ ap (λ (k : ℕ). getD mem (column + k * size) 0) (p ∙ o))))
+gathered-turn keys steps mem column k best seen next h g p q =
+    (λ t. gathered (drop (add-one k t) keys) (drop (add-one k t) steps) mem column ((q ∙ ap (lesser best) p) t))
+    ∙ λ t. gathered (sym (drop-cons keys k 0 h) t) (sym (drop-cons steps k 0 g) t) mem column best
 
-pub gathered-done : (left : ℕ) (mem list : List ℕ) (size column from : ℕ) (best : Row) → left ≤ 0 → gathered left mem list size column from best ≡ best
+pub gathered-done : (keys steps mem : List ℕ) (column k best : ℕ) → length keys ≤ k → gathered (drop k keys) (drop k steps) mem column best ≡ best
 unfolding gathered
-gathered-done zero mem list size column from best none = refl
-gathered-done (suc n) mem list size column from best none = absurd (omega arith)
+gathered-done keys steps mem column k best h = ap (λ (l : List ℕ). gathered l (drop k steps) mem column best) (drop-of-length-le keys h)
 
--- A row made anew.
-module _ (mem list : List ℕ) (count size v row column : ℕ) where
-  pub renewed-shown : (best : Row) (end : List ℕ) → getD mem row 0 ≡ v → best ≡ gathered count mem list size column 0 emptyRow → end ≡ shown mem row best
-      → end ≡ renewed mem list count size v row column
-  unfolding renewed
-  renewed-shown best end same p e = rw (eq-eqb (getD mem row 0) v same) (e ∙ ap (shown mem row) p)
+pub renewed-turn : (numbers mem end keys steps : List ℕ) (rows table k i best : ℕ) (row : Row) → k < length numbers → i ≡ getD numbers k 0 → best ≡ gathered keys steps mem (table + i) farKey → row ≡ unkeyed best
+    → end ≡ shown mem (rows + 4 * i) row → renewed (drop (k + 1) numbers) end keys steps rows table ≡ renewed (drop k numbers) mem keys steps rows table
+unfolding renewed
+renewed-turn numbers mem end keys steps rows table k i best row h p q r s =
+    (λ t. renewed (drop (add-one k t) numbers) ((s ∙ ap (shown mem (rows + 4 * i)) (r ∙ ap unkeyed q) ∙ ap (λ (j : ℕ). shown mem (rows + 4 * j) (unkeyed (gathered keys steps mem (table + j) farKey))) p) t) keys steps rows table)
+    ∙ ap (λ (l : List ℕ). renewed l mem keys steps rows table) (sym (drop-cons numbers k 0 h))
 
-  pub renewed-other : (getD mem row 0 ≡ v → ⊥) → mem ≡ renewed mem list count size v row column
-  unfolding renewed
-  renewed-other other = rw (ne-eqb (getD mem row 0) v other)
-
-pub departed-turn : (n left : ℕ) (mem end list : List ℕ) (count size v row column : ℕ) → left ≡ suc n → end ≡ renewed mem list count size v row column
-    → departed n end list count size v (row + 4) (column + 1) ≡ departed left mem list count size v row column
-unfolding departed
-departed-turn n left mem end list count size v row column e q = rw e (ap (λ (l : List ℕ). departed n l list count size v (row + 4) (column + 1)) q)
-
-pub departed-done : (left : ℕ) (mem list : List ℕ) (count size v row column : ℕ) → left ≤ 0 → departed left mem list count size v row column ≡ mem
-unfolding departed
-departed-done zero mem list count size v row column none = refl
-departed-done (suc n) mem list count size v row column none = absurd (omega arith)
+pub renewed-done : (numbers mem keys steps : List ℕ) (rows table k : ℕ) → length numbers ≤ k → renewed (drop k numbers) mem keys steps rows table ≡ mem
+unfolding renewed
+renewed-done numbers mem keys steps rows table k h = ap (λ (l : List ℕ). renewed l mem keys steps rows table) (drop-of-length-le numbers h)
 
 -- One part.
 module _ (mem : List ℕ) (rows table size v : ℕ) where
-  pub changed-arrived : (is : Bool) (end : List ℕ) (any : Bool) → is ≡ true → (end ≡ arrived size mem rows size v rows table) × (any ≡ anyNews false size mem rows size v rows table)
+  module _ (numbers : List ℕ) (e : numbers ≡ bringing mem rows size v) where
+    pub arrived-some : (end : List ℕ) (any : Bool) → 0 < length numbers
+        → (end ≡ arrived (lead numbers mem rows ∷ numbers) mem rows table size v) × (any ≡ anyNews false (lead numbers mem rows ∷ numbers) mem rows table size v)
+        → (end ≡ changed mem rows table size v true) × (any ≡ touches mem rows table size v true)
+    unfolding changed touches led
+    arrived-some end any some h = (
+      h .0 ∙ ap (λ (l : List ℕ). arrived l mem rows table size v) (led-some numbers some ∙ ap (λ (l : List ℕ). led l mem rows) e),
+      h .1 ∙ ap (λ (l : List ℕ). anyNews false l mem rows table size v) (led-some numbers some ∙ ap (λ (l : List ℕ). led l mem rows) e),
+    )
+      where
+        led-some : (l : List ℕ) → 0 < length l → lead l mem rows ∷ l ≡ led l mem rows
+        led-some [] some = absurd (omega arith)
+        led-some (i ∷ l) some = refl
+
+    pub arrived-none : length numbers ≤ 0 → (mem ≡ changed mem rows table size v true) × (false ≡ touches mem rows table size v true)
+    unfolding changed touches led arrived anyNews
+    arrived-none none = (
+      ap (λ (l : List ℕ). arrived (led l mem rows) mem rows table size v) (sym (drop-of-length-le numbers none) ∙ e),
+      ap (λ (l : List ℕ). anyNews false (led l mem rows) mem rows table size v) (sym (drop-of-length-le numbers none) ∙ e),
+    )
+
+  pub changed-as : (is was : Bool) (end : List ℕ) (any : Bool) → is ≡ was → (end ≡ changed mem rows table size v was) × (any ≡ touches mem rows table size v was)
       → (end ≡ changed mem rows table size v is) × (any ≡ touches mem rows table size v is)
-  unfolding changed touches
-  changed-arrived is end any yes-arrives h = (rw yes-arrives (h .0), rw yes-arrives (h .1))
+  changed-as is was end any e h = rw e h
 
-  pub changed-departed : (is : Bool) (end : List ℕ) (any : Bool) → is ≡ false → (end ≡ changed mem rows table size v false) × (any ≡ touches mem rows table size v false)
-      → (end ≡ changed mem rows table size v is) × (any ≡ touches mem rows table size v is)
-  changed-departed is end any departs h = rw departs h
+  module _ (numbers : List ℕ) (e : numbers ≡ showing mem rows size v) where
+    pub departed-none : length numbers ≤ 0 → (mem ≡ changed mem rows table size v false) × (false ≡ touches mem rows table size v false)
+    unfolding changed touches departed renewed
+    departed-none none = (
+      ap (λ (l : List ℕ). renewed l mem (map (sourceKey mem rows) (filled mem rows size)) (map (λ i. size * i) (filled mem rows size)) rows table) (sym (drop-of-length-le numbers none) ∙ e),
+      sym (le-ltb 0 (length numbers) none) ∙ ap (λ (l : List ℕ). ltb 0 (length l)) e,
+    )
 
-  pub departed-none : (any : Bool) → any ≡ anyShows size mem v rows → any ≡ false → (mem ≡ changed mem rows table size v false) × (false ≡ touches mem rows table size v false)
-  unfolding changed touches
-  departed-none any e none = (rw (sym e ∙ none), sym none ∙ e)
-
-  pub departed-some : (any : Bool) (end : List ℕ) → any ≡ anyShows size mem v rows → any ≡ true
-      → end ≡ departed size mem (sources mem rows size) (sourceCount mem rows size) size v rows table → (end ≡ changed mem rows table size v false) × (true ≡ touches mem rows table size v false)
-  unfolding changed touches
-  departed-some any end e some h = (rw (sym e ∙ some) h, sym some ∙ e)
-
-  pub departed-all : (list end : List ℕ) (count : ℕ) → list ≡ listed size (replicate 384 0) mem rows 0 0 → count ≡ listedCount size mem rows 0 → end ≡ departed size mem list count size v rows table
-      → end ≡ departed size mem (sources mem rows size) (sourceCount mem rows size) size v rows table
-  unfolding sources sourceCount
-  departed-all list end count p q h = h ∙ λ t. departed size mem (p t) (q t) size v rows table
+    pub departed-some : (end : List ℕ) → 0 < length numbers → end ≡ renewed numbers mem (map (sourceKey mem rows) (filled mem rows size)) (map (λ i. size * i) (filled mem rows size)) rows table
+        → (end ≡ changed mem rows table size v false) × (true ≡ touches mem rows table size v false)
+    unfolding changed touches departed
+    departed-some end some h = (
+      h ∙ ap (λ (l : List ℕ). renewed l mem (map (sourceKey mem rows) (filled mem rows size)) (map (λ i. size * i) (filled mem rows size)) rows table) e,
+      sym (lt-ltb 0 (length numbers) some) ∙ ap (λ (l : List ℕ). ltb 0 (length l)) e,
+    )
 
 -- A part's record.
 module _ (mem : List ℕ) (p : ℕ) where

@@ -1,11 +1,11 @@
 -- What the functions of this crate do to any list of words. A row is named by the address of its first word.
 use Prim.Native.Nat.{ℕ, zero, suc, _+_, _*_, _/_, _%_}
 use mathlib.Core.Bool.{Bool, true, false, _||_, _&&_, cond}
-use mathlib.Core.List.{List}
-use lib.ListN.{length, set, replicate}
+use mathlib.Core.List.{List, [], _∷_, map}
+use lib.ListN.{length, set}
 use lib.Dec.{eqb, ltb, leb}
 use Rattle.words.specs.Limits.{FAR, mostBorders, mostLevels}
-use Rattle.words.specs.Lists.{word}
+use Rattle.words.specs.Lists.{word, upTo, keep}
 use Rattle.rows.specs.declared.Row.{Row}
 use Rattle.rows.specs.Row.{emptyRow, comesBefore}
 
@@ -44,6 +44,9 @@ unplaced place = record { vertex = place % 4294967296; distance = place / 429496
 unfoldable pub placedSeen : ℕ → ℕ → ℕ → ℕ
 placedSeen v x d = cond (ltb (x + d) FAR) (placed v (x + d)) 18446744073709551615
 
+unfoldable pub lesser : ℕ → ℕ → ℕ
+lesser a b = cond (ltb b a) b a
+
 -- An arrival.
 
 -- v at distance x is offered to `left` rows from `to` on, with the distances that stand from `at` on
@@ -59,62 +62,75 @@ isNews mem v row = eqb (sourceIn mem row .vertex) v && comesBefore (sourceIn mem
 unfoldable pub met : List ℕ → ℕ → ℕ → ℕ → ℕ → ℕ → List ℕ
 met mem rows size v row line = cond (isNews mem v row) (spread size mem rows line v (sourceIn mem row .distance)) mem
 
--- v arrived: this for `left` sources from `row` on, with the lines of the table from `line` on
-unfoldable pub arrived : ℕ → List ℕ → ℕ → ℕ → ℕ → ℕ → ℕ → List ℕ
-arrived zero mem rows size v row line = mem
-arrived (suc left) mem rows size v row line = arrived left (met mem rows size v row line) rows size v (row + 4) (line + size)
+-- v arrived: this for the sources of the rows with these numbers
+unfoldable pub arrived : List ℕ → List ℕ → ℕ → ℕ → ℕ → ℕ → List ℕ
+arrived [] mem rows table size v = mem
+arrived (i ∷ numbers) mem rows table size v = arrived numbers (met mem rows size v (rows + 4 * i) (table + size * i)) rows table size v
 
 -- some source was offered, or `any` is true already
-unfoldable pub anyNews : Bool → ℕ → List ℕ → ℕ → ℕ → ℕ → ℕ → ℕ → Bool
-anyNews any zero mem rows size v row line = any
-anyNews any (suc left) mem rows size v row line = anyNews (isNews mem v row || any) left (met mem rows size v row line) rows size v (row + 4) (line + size)
+unfoldable pub anyNews : Bool → List ℕ → List ℕ → ℕ → ℕ → ℕ → ℕ → Bool
+anyNews any [] mem rows table size v = any
+anyNews any (i ∷ numbers) mem rows table size v = anyNews (isNews mem v (rows + 4 * i) || any) numbers (met mem rows size v (rows + 4 * i) (table + size * i)) rows table size v
+
+-- the numbers of the rows whose source shows v
+unfoldable pub bringing : List ℕ → ℕ → ℕ → ℕ → List ℕ
+bringing mem rows size v = keep (λ i. eqb (sourceIn mem (rows + 4 * i) .vertex) v) (upTo size)
+
+-- the least of `best` and of the places of these numbers, each at its source's distance
+unfoldable pub leadFrom : List ℕ → List ℕ → ℕ → ℕ → ℕ
+leadFrom [] mem rows best = best
+leadFrom (i ∷ numbers) mem rows best = leadFrom numbers mem rows (lesser best (placed i (sourceIn mem (rows + 4 * i) .distance)))
+
+-- the number of one whose source is the nearest of these
+abbrev pub lead : List ℕ → List ℕ → ℕ → ℕ
+lead numbers mem rows = leadFrom numbers mem rows (placed 0 FAR) % 4294967296
+
+-- these numbers, and such a one before them
+unfoldable pub led : List ℕ → List ℕ → ℕ → List ℕ
+led [] mem rows = []
+led (i ∷ numbers) mem rows = lead (i ∷ numbers) mem rows ∷ i ∷ numbers
 
 -- A departure.
 
--- some of `left` rows from `row` on shows v
-unfoldable pub anyShows : ℕ → List ℕ → ℕ → ℕ → Bool
-anyShows zero mem v row = false
-anyShows (suc left) mem v row = eqb (word mem row) v || anyShows left mem v (row + 4)
+-- the numbers of the rows that show v
+unfoldable pub showing : List ℕ → ℕ → ℕ → ℕ → List ℕ
+showing mem rows size v = keep (λ i. eqb (word mem (rows + 4 * i)) v) (upTo size)
 
--- A list of sources that are not empty, with three words for each: its vertex, its distance, and its number among the part's rows.
+-- the numbers of the rows whose source is not empty
+unfoldable pub filled : List ℕ → ℕ → ℕ → List ℕ
+filled mem rows size = keep (λ i. ltb (sourceIn mem (rows + 4 * i) .distance) FAR) (upTo size)
 
--- source number i, written down as entry n
-unfoldable pub noted : List ℕ → ℕ → Row → ℕ → List ℕ
-noted list n source i = cond (ltb (source .distance) FAR) (set (shown list (3 * n) source) (3 * n + 2) i) list
+-- A row as a key: of two rows whose vertices are below 65,536, the one that comes before has the lesser.
+abbrev pub keyed : Row → ℕ
+keyed row = row .distance * 65536 + row .vertex
 
-unfoldable pub notedCount : ℕ → Row → ℕ
-notedCount n source = cond (ltb (source .distance) FAR) (n + 1) n
+-- from here on a key is of nothing that reaches
+abbrev pub farKey : ℕ
+farKey = 281474976645120
 
--- this for `left` rows from `row` on, the first of them with number i
-unfoldable pub listed : ℕ → List ℕ → List ℕ → ℕ → ℕ → ℕ → List ℕ
-listed zero list mem row i n = list
-listed (suc left) list mem row i n = listed left (noted list n (sourceIn mem row) i) mem (row + 4) (i + 1) (notedCount n (sourceIn mem row))
+unfoldable pub unkeyed : ℕ → Row
+unkeyed key = cond (ltb key farKey) (record { vertex = key % 65536; distance = key / 65536 }) emptyRow
 
-unfoldable pub listedCount : ℕ → List ℕ → ℕ → ℕ → ℕ
-listedCount zero mem row n = n
-listedCount (suc left) mem row n = listedCount left mem (row + 4) (notedCount n (sourceIn mem row))
+-- the key of the source of row number i
+abbrev pub sourceKey : List ℕ → ℕ → ℕ → ℕ
+sourceKey mem rows i = keyed (sourceIn mem (rows + 4 * i))
 
--- the list that a part's sources make
-unfoldable pub sources : List ℕ → ℕ → ℕ → List ℕ
-sources mem rows size = listed size (replicate 384 0) mem rows 0 0
+-- the least of `best` and of these keys, each seen as much further on as stands so many words from `column`
+unfoldable pub gathered : List ℕ → List ℕ → List ℕ → ℕ → ℕ → ℕ
+gathered [] steps mem column best = best
+gathered (key ∷ keys) [] mem column best = best
+gathered (key ∷ keys) (step ∷ steps) mem column best = gathered keys steps mem column (lesser best (key + word mem (column + step) * 65536))
 
-unfoldable pub sourceCount : List ℕ → ℕ → ℕ → ℕ
-sourceCount mem rows size = listedCount size mem rows 0
+-- the rows with these numbers are made anew from these keys, each with its column of the table
+unfoldable pub renewed : List ℕ → List ℕ → List ℕ → List ℕ → ℕ → ℕ → List ℕ
+renewed [] mem keys steps rows table = mem
+renewed (i ∷ numbers) mem keys steps rows table =
+    renewed numbers (shown mem (rows + 4 * i) (unkeyed (gathered keys steps mem (table + i) farKey))) keys steps rows table
 
--- the nearest of a row and of `left` listed sources from `from` on, with the distances that stand in a column of the table
-unfoldable pub gathered : ℕ → List ℕ → List ℕ → ℕ → ℕ → ℕ → Row → Row
-gathered zero mem list size column from best = best
-gathered (suc left) mem list size column from best =
-    gathered left mem list size column (from + 3) (offeredTo best (word list from) (word list (from + 1)) (word mem (column + word list (from + 2) * size)))
-
--- a row that shows v is made anew from `count` listed sources, with a column of the table
-unfoldable pub renewed : List ℕ → List ℕ → ℕ → ℕ → ℕ → ℕ → ℕ → List ℕ
-renewed mem list count size v row column = cond (eqb (word mem row) v) (shown mem row (gathered count mem list size column 0 emptyRow)) mem
-
--- v departed: this for `left` rows from `row` on, with the columns of the table from `column` on
-unfoldable pub departed : ℕ → List ℕ → List ℕ → ℕ → ℕ → ℕ → ℕ → ℕ → List ℕ
-departed zero mem list count size v row column = mem
-departed (suc left) mem list count size v row column = departed left (renewed mem list count size v row column) list count size v (row + 4) (column + 1)
+-- v departed: each row that shows it is made anew from the sources as they stand
+unfoldable pub departed : List ℕ → ℕ → ℕ → ℕ → ℕ → List ℕ
+departed mem rows table size v =
+    renewed (showing mem rows size v) mem (map (sourceKey mem rows) (filled mem rows size)) (map (λ i. size * i) (filled mem rows size)) rows table
 
 -- One part: what it is by its record.
 
@@ -131,13 +147,11 @@ fits mem rows table size = leb (rows + 4 * size) (length mem) && leb (table + si
 
 -- the rows after v arrived (`is` true) or departed
 unfoldable pub changed : List ℕ → ℕ → ℕ → ℕ → ℕ → Bool → List ℕ
-changed mem rows table size v is =
-    cond is (arrived size mem rows size v rows table)
-    (cond (anyShows size mem v rows) (departed size mem (sources mem rows size) (sourceCount mem rows size) size v rows table) mem)
+changed mem rows table size v is = cond is (arrived (led (bringing mem rows size v) mem rows) mem rows table size v) (departed mem rows table size v)
 
 -- whether any row may have changed
 unfoldable pub touches : List ℕ → ℕ → ℕ → ℕ → ℕ → Bool → Bool
-touches mem rows table size v is = cond is (anyNews false size mem rows size v rows table) (anyShows size mem v rows)
+touches mem rows table size v is = cond is (anyNews false (led (bringing mem rows size v) mem rows) mem rows table size v) (ltb 0 (length (showing mem rows size v)))
 
 unfoldable pub refreshed : List ℕ → ℕ → ℕ → Bool → List ℕ
 refreshed mem p v is =

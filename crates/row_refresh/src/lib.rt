@@ -5,31 +5,37 @@ use cells::wide;
 use cells::word;
 use rows::Row;
 ghost use mathlib.Core.Path.{_≡_};
-ghost use mathlib.Core.Bool.{true, false, _||_};
+ghost use mathlib.Core.Bool.{true, false, _||_, cond};
+ghost use mathlib.Core.List.{_∷_, map};
 ghost use Prim.Native.Nat.{_+_, _*_, _/_, _%_, _≤_, _<_};
-ghost use lib.ListN.{length};
-ghost use Rattle.rows.specs.Row.{emptyRow};
-ghost use Rattle.row_refresh.specs.Model.{rowIn, shown, sourceIn, offeredTo, offered, placed, unplaced, placedSeen, spread, isNews, met, arrived, anyNews, anyShows, noted, notedCount, listed, listedCount, sources, sourceCount, gathered, renewed, departed, rowsHere, fits, changed, touches, refreshed, touched, refreshedUp, ownRow, vertexAt, switched};
+ghost use lib.ListN.{length, take};
+ghost use Rattle.words.specs.Lists.{word};
+ghost use Rattle.rows.specs.Row.{comesBefore};
+ghost use Rattle.row_refresh.specs.Model.{rowIn, shown, sourceIn, offeredTo, offered, placed, unplaced, placedSeen, spread, isNews, met, arrived, anyNews, bringing, lead, showing, filled, farKey, unkeyed, sourceKey, lesser, gathered, renewed, rowsHere, changed, touches, refreshed, touched, refreshedUp, ownRow, switched};
+ghost use Rattle.row_refresh.specs.Lists.{Within, Small, Steps, Renewable};
 
 const MOST_ROWS: usize = 128;
 
 const MOST_LEVELS: usize = 16;
 
-// The places of the empty row, and of what is too far to be seen.
-const EMPTY_PLACE: u64 = 18446744069414649855;
-
+// The places of what is too far to be seen, and of number 0 where it does not reach.
 const LAST_PLACE: u64 = 18446744073709551615;
+
+const FIRST_PLACE: u64 = 18446744069414584320;
+
+// The least key of what does not reach.
+const FAR_KEY: u64 = 281474976645120;
 
 // What the two words at an address show.
 fn row_at(mem: &[u32], at: usize) -> Row
-    requires { ⌜ at < 281474976710656 ⌝ }
+    requires { ⌜ at < 18446744073709551615 ⌝ }
     ensures { λ r. ⌜ r ≡ rowIn (now (mem .entry)) at ⌝ }
 {
     Row::showing(word(mem, at), word(mem, at + 1))
 }
 
 fn show(mem: &mut [u32], at: usize, row: Row)
-    requires { ⌜ at < 281474976710656 ⌝ }
+    requires { ⌜ at < 18446744073709551615 ⌝ }
     ensures { λ _. ⌜ now (mem .exit) ≡ shown (now (mem .entry)) at row ⌝ }
 {
     put(mem, at, row.vertex);
@@ -38,10 +44,10 @@ fn show(mem: &mut [u32], at: usize, row: Row)
 
 // What stands one step further down from a row: a leaf's vertex itself, and for any other part the same vertex's row in the child.
 fn source(mem: &[u32], row: usize) -> Row
-    requires { ⌜ row < 281474976710656 ⌝ }
+    requires { ⌜ row + 3 < length (now mem) ⌝ }
     ensures { λ r. ⌜ r ≡ sourceIn (now (mem .entry)) row ⌝ }
 {
-    row_at(mem, wide(word(mem, row + 3)))
+    row_at(mem, wide(mem[row + 3]))
 }
 
 // A row as one number, from which it can be read back: of two rows the one that comes before has the lesser.
@@ -103,6 +109,15 @@ fn spread_line(mem: &mut [u32], rows: usize, line: usize, size: usize, v: u32, x
     }
 }
 
+// Whether s comes before what the row at an address shows.
+fn comes_first(mem: &[u32], s: Row, row: usize) -> bool
+    requires { ⌜ row + 1 < length (now mem) ⌝ }
+    ensures { λ r. ⌜ r ≡ comesBefore s (rowIn (now (mem .entry)) row) ⌝ }
+{
+    let here = place(mem[row], mem[row + 1]);
+    place(s.vertex, s.distance) < here
+}
+
 // Where the source of a row shows v, and comes before what the row itself shows, it is offered to all rows of the part.
 fn meet(
     mem: &mut [u32],
@@ -113,12 +128,12 @@ fn meet(
     line: usize,
     any: bool,
 ) -> bool
-    requires { ⌜ (rows + 4 * size ≤ length (now mem)) × (line + size ≤ length (now mem)) × (row < 281474976710656) ⌝ }
+    requires { ⌜ (rows + 4 * size ≤ length (now mem)) × (line + size ≤ length (now mem)) × (row + 3 < length (now mem)) ⌝ }
     ensures { λ r. ⌜ (now (mem .exit) ≡ met (now (mem .entry)) rows size v row line) × (r ≡ (isNews (now (mem .entry)) v row || any)) ⌝ }
 {
     let s = source(mem, row);
     if s.vertex == v {
-        if s.comes_before(row_at(mem, row)) {
+        if comes_first(mem, s, row) {
             spread_line(mem, rows, line, size, v, s.distance);
             return true;
         }
@@ -126,58 +141,46 @@ fn meet(
     any
 }
 
-// v arrived in a part with these rows and this table. Says whether any source was offered.
-fn arrive(mem: &mut [u32], rows: usize, table: usize, size: usize, v: u32) -> bool
-    requires { ⌜ (rows + 4 * size ≤ length (now mem)) × (table + size * size ≤ length (now mem)) × (rows < 4294967296) × (size ≤ 128) ⌝ }
-    ensures { λ r. ⌜ (now (mem .exit) ≡ arrived size (now (mem .entry)) rows size v rows table) × (r ≡ anyNews false size (now (mem .entry)) rows size v rows table) ⌝ }
+// The sources of the rows with these numbers are met. Says whether any source was offered, or `already` is true.
+fn meet_all(
+    mem: &mut [u32],
+    numbers: &[u32],
+    rows: usize,
+    table: usize,
+    size: usize,
+    v: u32,
+    already: bool,
+) -> bool
+    requires { ⌜ (rows + 4 * size ≤ length (now mem)) × (table + size * size ≤ length (now mem)) × (size ≤ 128) × Within size (now numbers) ⌝ }
+    ensures { λ r. ⌜ (now (mem .exit) ≡ arrived (now (numbers .entry)) (now (mem .entry)) rows table size v) × (r ≡ anyNews already (now (numbers .entry)) (now (mem .entry)) rows table size v) ⌝ }
 {
-    let mut row = rows;
-    let mut line = table;
-    let mut left = size;
-    let mut any = false;
-    while 0 < left {
-        any = meet(mem, rows, size, v, row, line, any);
-        row += 4;
-        line += size;
-        left -= 1;
+    let n = numbers.len();
+    let mut any = already;
+    let mut k = 0;
+    while k < n {
+        let i = wide(numbers[k]);
+        any = meet(mem, rows, size, v, rows + 4 * i, table + size * i, any);
+        k += 1;
     }
     any
 }
 
-// Whether some of `size` rows shows v.
-fn some_shows(mem: &[u32], rows: usize, size: usize, v: u32) -> bool
-    requires { ⌜ rows + 4 * size ≤ length (now mem) ⌝ }
-    ensures { λ r. ⌜ r ≡ anyShows size (now (mem .entry)) v rows ⌝ }
-{
-    let mut row = rows;
-    let mut left = size;
-    while 0 < left {
-        if mem[row] == v {
-            return true;
-        }
-        row += 4;
-        left -= 1;
-    }
-    false
-}
-
-// Source number i of a part, written down as entry n if it is not empty. Says how many entries there are then.
-fn note(list: &mut [u32], n: usize, s: Row, i: u32) -> usize
+// How long a list is after one more entry was written, which counts if `is` is true. Lists are written so because which entries count is not foreseen, and a
+// jump would often go the wrong way.
+fn more(n: usize, is: bool) -> usize
     requires { ⌜ n < 4294967296 ⌝ }
-    ensures { λ r. ⌜ (now (list .exit) ≡ noted (now (list .entry)) n s i) × (r ≡ notedCount n s) × (r ≤ n + 1) ⌝ }
+    ensures { λ r. ⌜ (r ≡ cond is (n + 1) n) × (r ≤ n + 1) ⌝ }
 {
-    if s.distance < Row::FAR {
-        show(list, 3 * n, s);
-        put(list, 3 * n + 2, i);
+    if is {
         return n + 1;
     }
     n
 }
 
-// The sources of `size` rows that are not empty. Says how many there are.
-fn list_sources(mem: &[u32], rows: usize, size: usize, list: &mut [u32]) -> usize
-    requires { ⌜ (rows < 4294967296) × (size ≤ 128) ⌝ }
-    ensures { λ r. ⌜ (now (list .exit) ≡ listed size (now (list .entry)) (now (mem .entry)) rows 0 0) × (r ≡ listedCount size (now (mem .entry)) rows 0) × (r ≤ size) ⌝ }
+// The numbers of those of `size` rows whose source shows v. Says how many there are.
+fn list_bringing(mem: &[u32], rows: usize, size: usize, v: u32, numbers: &mut [u32]) -> usize
+    requires { ⌜ (rows + 4 * size ≤ length (now mem)) × (size ≤ length (now numbers)) × (size ≤ 128) ⌝ }
+    ensures { λ r. ⌜ (r ≤ size) × (take r (now (numbers .exit)) ≡ bringing (now (mem .entry)) rows size v) ⌝ }
 {
     let mut row = rows;
     let mut i: u32 = 0;
@@ -185,7 +188,8 @@ fn list_sources(mem: &[u32], rows: usize, size: usize, list: &mut [u32]) -> usiz
     let mut left = size;
     while 0 < left {
         let s = source(mem, row);
-        n = note(list, n, s, i);
+        numbers[n] = i;
+        n = more(n, s.vertex == v);
         row += 4;
         i += 1;
         left -= 1;
@@ -193,85 +197,186 @@ fn list_sources(mem: &[u32], rows: usize, size: usize, list: &mut [u32]) -> usiz
     n
 }
 
-// The nearest of `count` listed sources, with the distances of a column of the table.
-fn gather(mem: &[u32], list: &[u32], count: usize, size: usize, column: usize) -> Row
-    requires { ⌜ (3 * count ≤ length (now list)) × (column < 8589934592) × (size ≤ 128) ⌝ }
-    ensures { λ r. ⌜ r ≡ gathered count (now (mem .entry)) (now (list .entry)) size column 0 emptyRow ⌝ }
+// Of the rows with these numbers one whose source is the nearest: its number.
+fn nearest_number(mem: &[u32], numbers: &[u32], rows: usize, size: usize) -> usize
+    requires { ⌜ (rows + 4 * size ≤ length (now mem)) × (size ≤ 128) × Within size (now numbers) ⌝ }
+    ensures { λ r. ⌜ r ≡ lead (now (numbers .entry)) (now (mem .entry)) rows ⌝ }
 {
-    let mut best = EMPTY_PLACE;
-    let mut from = 0;
-    let mut left = count;
+    let n = numbers.len();
+    let mut best = FIRST_PLACE;
+    let mut k = 0;
+    while k < n {
+        let i = numbers[k];
+        let s = source(mem, rows + 4 * wide(i));
+        best = lesser_of(best, place(i, s.distance));
+        k += 1;
+    }
+    (best % 4294967296) as usize
+}
+
+// The sources of the rows with these numbers are met, the nearest first: what it brings the others often need not bring again.
+fn meet_led(
+    mem: &mut [u32],
+    numbers: &[u32],
+    rows: usize,
+    table: usize,
+    size: usize,
+    v: u32,
+) -> bool
+    requires { ⌜ (rows + 4 * size ≤ length (now mem)) × (table + size * size ≤ length (now mem)) × (size ≤ 128) × (0 < size) × Within size (now numbers) ⌝ }
+    ensures { λ r. ⌜ (now (mem .exit) ≡ arrived (lead (now (numbers .entry)) (now (mem .entry)) rows ∷ now (numbers .entry)) (now (mem .entry)) rows table size v) × (r ≡ anyNews false (lead (now (numbers .entry)) (now (mem .entry)) rows ∷ now (numbers .entry)) (now (mem .entry)) rows table size v) ⌝ }
+{
+    let i = nearest_number(mem, numbers, rows, size);
+    let any = meet(mem, rows, size, v, rows + 4 * i, table + size * i, false);
+    meet_all(mem, numbers, rows, table, size, v, any)
+}
+
+// v arrived in a part with these rows and this table. Says whether any source was offered.
+fn arrive(mem: &mut [u32], rows: usize, table: usize, size: usize, v: u32) -> bool
+    requires { ⌜ (rows + 4 * size ≤ length (now mem)) × (table + size * size ≤ length (now mem)) × (size ≤ 128) ⌝ }
+    ensures { λ r. ⌜ (now (mem .exit) ≡ changed (now (mem .entry)) rows table size v true) × (r ≡ touches (now (mem .entry)) rows table size v true) ⌝ }
+{
+    let mut numbers = [0u32; 128];
+    let n = list_bringing(mem, rows, size, v, &mut numbers);
+    if 0 < n {
+        return meet_led(mem, &numbers[..n], rows, table, size, v);
+    }
+    false
+}
+
+// The numbers of those of `size` rows that show v. Says how many there are.
+fn list_showing(mem: &[u32], rows: usize, size: usize, v: u32, numbers: &mut [u32]) -> usize
+    requires { ⌜ (rows + 4 * size ≤ length (now mem)) × (size ≤ length (now numbers)) × (size ≤ 128) ⌝ }
+    ensures { λ r. ⌜ (r ≤ size) × (take r (now (numbers .exit)) ≡ showing (now (mem .entry)) rows size v) ⌝ }
+{
+    let mut row = rows;
+    let mut i: u32 = 0;
+    let mut n = 0;
+    let mut left = size;
     while 0 < left {
-        let v = list[from];
-        let x = list[from + 1];
-        let d = word(mem, column + wide(word(list, from + 2)) * size);
-        best = nearer_place(best, v, x, d);
-        from += 3;
+        numbers[n] = i;
+        n = more(n, mem[row] == v);
+        row += 4;
+        i += 1;
         left -= 1;
     }
-    row_of(best)
+    n
 }
 
-// A row that shows v is made anew.
-fn renew(
-    mem: &mut [u32],
-    list: &[u32],
-    count: usize,
-    size: usize,
-    v: u32,
-    row: usize,
-    column: usize,
-)
-    requires { ⌜ (row < length (now mem)) × (3 * count ≤ length (now list)) × (row < 281474976710656) × (column < 8589934592) × (size ≤ 128) ⌝ }
-    ensures { λ _. ⌜ now (mem .exit) ≡ renewed (now (mem .entry)) (now (list .entry)) count size v row column ⌝ }
+// A row as a key, to which a distance can be added: of two rows whose vertices are below 65,536 the one that comes before has the lesser.
+fn key(vertex: u32, distance: u32) -> u64
+    ensures { λ r. ⌜ (r ≡ distance * 65536 + vertex) × (r < 562949953421312) ⌝ }
 {
-    if mem[row] == v {
-        let best = gather(mem, list, count, size, column);
-        show(mem, row, best);
-    }
+    distance as u64 * 65536 + vertex as u64
 }
 
-// Each of `size` rows that shows v is made anew.
+// A key seen d further on.
+fn key_seen(key: u64, d: u32) -> u64
+    requires { ⌜ key < 562949953421312 ⌝ }
+    ensures { λ r. ⌜ r ≡ key + d * 65536 ⌝ }
+{
+    key + d as u64 * 65536
+}
+
+// The lesser of two places, or of two keys.
+fn lesser_of(a: u64, b: u64) -> u64
+    ensures { λ r. ⌜ r ≡ lesser a b ⌝ }
+{
+    if b < a { b } else { a }
+}
+
+fn row_of_key(key: u64) -> Row
+    ensures { λ r. ⌜ r ≡ unkeyed key ⌝ }
+{
+    if key < FAR_KEY {
+        return Row::showing((key % 65536) as u32, (key / 65536) as u32);
+    }
+    Row::empty()
+}
+
+// Of those of `size` rows whose source is not empty: the keys of the sources, and how far into the table their lines are. Says how many there are.
+fn list_sources(
+    mem: &[u32],
+    rows: usize,
+    size: usize,
+    keys: &mut [u64],
+    steps: &mut [usize],
+) -> usize
+    requires { ⌜ (rows + 4 * size ≤ length (now mem)) × (size ≤ length (now keys)) × (size ≤ length (now steps)) × (size ≤ 128) ⌝ }
+    ensures { λ r. ⌜ (r ≤ size) × (take r (now (keys .exit)) ≡ map (sourceKey (now (mem .entry)) rows) (filled (now (mem .entry)) rows size)) × (take r (now (steps .exit)) ≡ map (λ i. size * i) (filled (now (mem .entry)) rows size)) × Small r (now (keys .exit)) ⌝ }
+{
+    let mut step = 0;
+    let mut n = 0;
+    let mut i = 0;
+    while i < size {
+        let s = source(mem, rows + 4 * i);
+        keys[n] = key(s.vertex, s.distance);
+        steps[n] = step;
+        n = more(n, s.distance < Row::FAR);
+        step += size;
+        i += 1;
+    }
+    n
+}
+
+// The least of these keys, with the distances of a column of the table.
+fn gather(mem: &[u32], keys: &[u64], steps: &[usize], column: usize) -> u64
+    requires { ⌜ Steps (now mem) (now keys) (now steps) column ⌝ }
+    ensures { λ r. ⌜ r ≡ gathered (now (keys .entry)) (now (steps .entry)) (now (mem .entry)) column farKey ⌝ }
+{
+    let n = keys.len();
+    let mut best = FAR_KEY;
+    let mut k = 0;
+    while k < n {
+        let at = column + steps[k];
+        best = lesser_of(best, key_seen(keys[k], mem[at]));
+        k += 1;
+    }
+    best
+}
+
+// The rows with these numbers are made anew.
 fn renew_all(
     mem: &mut [u32],
-    list: &[u32],
-    count: usize,
-    size: usize,
-    v: u32,
+    numbers: &[u32],
+    keys: &[u64],
+    steps: &[usize],
     rows: usize,
     table: usize,
 )
-    requires { ⌜ (rows + 4 * size ≤ length (now mem)) × (3 * count ≤ length (now list)) × (rows < 4294967296) × (table < 4294967296) × (size ≤ 128) ⌝ }
-    ensures { λ _. ⌜ now (mem .exit) ≡ departed size (now (mem .entry)) (now (list .entry)) count size v rows table ⌝ }
+    requires { ⌜ Renewable (length (now mem)) (now numbers) (now keys) (now steps) rows table ⌝ }
+    ensures { λ _. ⌜ now (mem .exit) ≡ renewed (now (numbers .entry)) (now (mem .entry)) (now (keys .entry)) (now (steps .entry)) rows table ⌝ }
 {
-    let mut row = rows;
-    let mut column = table;
-    let mut left = size;
-    while 0 < left {
-        renew(mem, list, count, size, v, row, column);
-        row += 4;
-        column += 1;
-        left -= 1;
+    let n = numbers.len();
+    let mut k = 0;
+    while k < n {
+        let i = wide(numbers[k]);
+        let best = gather(mem, keys, steps, table + i);
+        show(mem, rows + 4 * i, row_of_key(best));
+        k += 1;
     }
 }
 
-// Each row that shows v is made anew from the part's sources as they stand.
-fn renew_part(mem: &mut [u32], rows: usize, table: usize, size: usize, v: u32)
-    requires { ⌜ (rows + 4 * size ≤ length (now mem)) × (rows < 4294967296) × (table < 4294967296) × (size ≤ 128) ⌝ }
-    ensures { λ _. ⌜ now (mem .exit) ≡ departed size (now (mem .entry)) (sources (now (mem .entry)) rows size) (sourceCount (now (mem .entry)) rows size) size v rows table ⌝ }
+// The rows with these numbers are made anew from the part's sources as they stand.
+fn renew_part(mem: &mut [u32], numbers: &[u32], rows: usize, table: usize, size: usize)
+    requires { ⌜ (rows + 4 * size ≤ length (now mem)) × (table + size * size ≤ length (now mem)) × (size ≤ 128) × Within size (now numbers) ⌝ }
+    ensures { λ _. ⌜ now (mem .exit) ≡ renewed (now (numbers .entry)) (now (mem .entry)) (map (sourceKey (now (mem .entry)) rows) (filled (now (mem .entry)) rows size)) (map (λ i. size * i) (filled (now (mem .entry)) rows size)) rows table ⌝ }
 {
-    let mut list = [0u32; 384];
-    let count = list_sources(mem, rows, size, &mut list);
-    renew_all(mem, &list, count, size, v, rows, table);
+    let mut keys = [0u64; 128];
+    let mut steps = [0usize; 128];
+    let n = list_sources(mem, rows, size, &mut keys, &mut steps);
+    renew_all(mem, numbers, &keys[..n], &steps[..n], rows, table);
 }
 
 // v departed from a part with these rows and this table. Says whether any row showed it.
 fn depart(mem: &mut [u32], rows: usize, table: usize, size: usize, v: u32) -> bool
-    requires { ⌜ (rows + 4 * size ≤ length (now mem)) × (table + size * size ≤ length (now mem)) × (rows < 4294967296) × (table < 4294967296) × (size ≤ 128) ⌝ }
+    requires { ⌜ (rows + 4 * size ≤ length (now mem)) × (table + size * size ≤ length (now mem)) × (size ≤ 128) ⌝ }
     ensures { λ r. ⌜ (now (mem .exit) ≡ changed (now (mem .entry)) rows table size v false) × (r ≡ touches (now (mem .entry)) rows table size v false) ⌝ }
 {
-    if some_shows(mem, rows, size, v) {
-        renew_part(mem, rows, table, size, v);
+    let mut numbers = [0u32; 128];
+    let n = list_showing(mem, rows, size, v, &mut numbers);
+    if 0 < n {
+        renew_part(mem, &numbers[..n], rows, table, size);
         return true;
     }
     false
@@ -290,7 +395,7 @@ fn rows_here(mem: &[u32], p: u32) -> usize
 
 // The rows of a part, after v arrived in it or departed from it. Says whether any row may have changed.
 fn change(mem: &mut [u32], rows: usize, table: usize, size: usize, v: u32, arrives: bool) -> bool
-    requires { ⌜ (rows + 4 * size ≤ length (now mem)) × (table + size * size ≤ length (now mem)) × (rows < 4294967296) × (table < 4294967296) × (size ≤ 128) ⌝ }
+    requires { ⌜ (rows + 4 * size ≤ length (now mem)) × (table + size * size ≤ length (now mem)) × (size ≤ 128) ⌝ }
     ensures { λ r. ⌜ (now (mem .exit) ≡ changed (now (mem .entry)) rows table size v arrives) × (r ≡ touches (now (mem .entry)) rows table size v arrives) ⌝ }
 {
     if arrives {

@@ -1,6 +1,6 @@
 //! A plain fleet with nearest rows, kept up to date in one of two ways where a vertex becomes active or inactive.
 
-use crate::shape::{Shape, NO_ROW};
+use crate::shape::Shape;
 use roadgen::{Map, Place, FAR, MOST_BORDERS};
 
 /// The vertex that an empty row shows.
@@ -41,8 +41,8 @@ pub struct Fleet {
 pub enum Method {
     /// All rows of the vertex's leaf are made anew from the leaf's active vertices, then all rows of each part above from its children's.
     Anew,
-    /// As the core does it: a vertex that became active is offered to the rows, by those sources that show it; where it became inactive,
-    /// the rows that showed it are made anew; and the climb ends where no row of the part changed that has one in the parent.
+    /// As the core does it: a vertex that became active is offered to the rows by those sources that show it, the nearest first; where it
+    /// became inactive, the rows that showed it are made anew from a list of the sources; and the climb ends where no row can have changed.
     Chosen,
 }
 
@@ -170,59 +170,101 @@ impl<'a> PlainFleet<'a> {
     }
 
     fn offer_to_rows(&mut self, part: usize, v: u32) -> bool {
-        let shape = self.shape;
-        let mut made = Made::of(&self.fleet.rows[shape.rows(part)]);
-        if shape.is_leaf[part] {
-            let row = shape.leaf_row[v as usize] as usize - shape.rows(part).start;
-            made.offer(
-                (v, 0),
-                self.lines(part).nth(row).expect("a line for each row"),
-            );
-        } else {
-            for (line, row) in self.lines(part).zip(shape.rows(part)) {
-                let source = self.source(false, row);
-                if source.0 == v {
-                    made.offer(source, line);
-                }
+        let (rows, is_leaf) = (self.shape.rows(part), self.shape.is_leaf[part]);
+        let places = Places::of(rows.len(), |i| self.source(is_leaf, rows.start + i).0 == v);
+        let distance = |&i: &usize| self.source(is_leaf, rows.start + i).1;
+        let Some(nearest) = places.list().iter().copied().min_by_key(distance) else {
+            return false;
+        };
+        let mut any = false;
+        for &i in std::iter::once(&nearest).chain(places.list()) {
+            let source = self.source(is_leaf, rows.start + i);
+            if placed(source) < placed(self.fleet.rows[rows.start + i]) {
+                let line = &self.tables[self.shape.table(part)][i * rows.len()..][..rows.len()];
+                offer(&mut self.fleet.rows[rows.clone()], source, line);
+                any = true;
             }
         }
-        made.put(&mut self.fleet.rows[shape.rows(part)]);
-        let mut rows = shape.rows(part);
-        rows.any(|row| shape.above[row] != NO_ROW && self.fleet.rows[row].0 == v)
+        any
     }
 
     fn take_from_rows(&mut self, part: usize, v: u32) -> bool {
-        let (shape, rows) = (self.shape, self.shape.rows(part));
-        let mut lost = [0; MOST_BORDERS];
-        let mut count = 0;
-        let mut matters = false;
-        for row in rows.clone().filter(|&row| self.fleet.rows[row].0 == v) {
-            lost[count] = row - rows.start;
-            count += 1;
-            matters |= shape.above[row] != NO_ROW;
-        }
-        // where many rows are lost, several at once are faster than those alone
-        if count * 4 > rows.len() {
-            self.make_anew(part, v);
-            return matters;
-        }
-        if count == 0 {
+        let (rows, is_leaf) = (self.shape.rows(part), self.shape.is_leaf[part]);
+        let size = rows.len();
+        let places = Places::of(size, |i| self.fleet.rows[rows.start + i].0 == v);
+        if places.count == 0 {
             return false;
         }
-        let mut made = Made::empty(count);
-        let is_leaf = shape.is_leaf[part];
-        for (line, row) in self.lines(part).zip(rows.clone()) {
-            let source = self.source(is_leaf, row);
-            if source != EMPTY {
-                made.offer_chosen(source, line, &lost[..count]);
-            }
+        let (mut keys, mut steps) = ([0; MOST_BORDERS], [0; MOST_BORDERS]);
+        let mut count = 0;
+        for i in 0..size {
+            let source = self.source(is_leaf, rows.start + i);
+            (keys[count], steps[count]) = (keyed(source), i * size);
+            count += usize::from(source.1 < FAR);
         }
-        let mut new = [EMPTY; MOST_BORDERS];
-        made.put(&mut new[..count]);
-        for (&place, &new) in lost[..count].iter().zip(&new) {
-            self.fleet.rows[rows.start + place] = new;
+        let table = &self.tables[self.shape.table(part)];
+        for &i in places.list() {
+            let sources = keys[..count].iter().zip(&steps[..count]);
+            let seen = sources.map(|(key, step)| key + (u64::from(table[step + i]) << 16));
+            self.fleet.rows[rows.start + i] = unkeyed(seen.fold(FAR_KEY, u64::min));
         }
-        matters
+        true
+    }
+}
+
+/// Places of a part's rows, in rising order.
+struct Places {
+    list: [usize; MOST_BORDERS],
+    count: usize,
+}
+
+impl Places {
+    /// Those that pass a test. Each is written and then counted or not, since a jump would often go the wrong way.
+    fn of(size: usize, test: impl Fn(usize) -> bool) -> Self {
+        let (mut list, mut count) = ([0; MOST_BORDERS], 0);
+        for i in 0..size {
+            list[count] = i;
+            count += usize::from(test(i));
+        }
+        Places { list, count }
+    }
+
+    fn list(&self) -> &[usize] {
+        &self.list[..self.count]
+    }
+}
+
+/// A row as one number: of two rows the one that comes before has the lesser.
+fn placed((vertex, distance): (u32, u32)) -> u64 {
+    u64::from(distance) << 32 | u64::from(vertex)
+}
+
+/// Each row shows the vertex of a source if it is nearer, or as near with a lower number.
+fn offer(rows: &mut [(u32, u32)], (vertex, distance): (u32, u32), line: &[u32]) {
+    for (row, &further) in rows.iter_mut().zip(line) {
+        let seen = if further < FAR - distance {
+            placed((vertex, distance + further))
+        } else {
+            u64::MAX
+        };
+        let new = seen.min(placed(*row));
+        *row = (new as u32, (new >> 32) as u32);
+    }
+}
+
+/// From here on a key is of nothing that reaches.
+const FAR_KEY: u64 = (FAR as u64) << 16;
+
+/// A row as a key, which leaves room for a second distance to be added.
+fn keyed((vertex, distance): (u32, u32)) -> u64 {
+    u64::from(distance) << 16 | u64::from(vertex)
+}
+
+fn unkeyed(key: u64) -> (u32, u32) {
+    if key < FAR_KEY {
+        (key as u32 & 65_535, (key >> 16) as u32)
+    } else {
+        EMPTY
     }
 }
 
@@ -242,15 +284,6 @@ impl Made {
         }
     }
 
-    fn of(rows: &[(u32, u32)]) -> Self {
-        let mut made = Made::empty(rows.len());
-        for (i, &(vertex, distance)) in rows.iter().enumerate() {
-            made.vertices[i] = vertex;
-            made.distances[i] = distance;
-        }
-        made
-    }
-
     /// Each row shows the vertex if it is nearer, or as near with a lower number.
     fn offer(&mut self, (vertex, distance): (u32, u32), line: &[u32]) {
         let vertices = self.vertices[..self.size].iter_mut();
@@ -260,17 +293,6 @@ impl Made {
             let nearer = (offer < *best) | ((offer == *best) & (vertex < *shown));
             *shown = if nearer { vertex } else { *shown };
             *best = if nearer { offer } else { *best };
-        }
-    }
-
-    /// The same where the rows made are those at these places alone.
-    fn offer_chosen(&mut self, (vertex, distance): (u32, u32), line: &[u32], places: &[usize]) {
-        for (i, &place) in places.iter().enumerate() {
-            let offer = distance.saturating_add(line[place]);
-            if (offer, vertex) < (self.distances[i], self.vertices[i]) {
-                self.vertices[i] = vertex;
-                self.distances[i] = offer;
-            }
         }
     }
 

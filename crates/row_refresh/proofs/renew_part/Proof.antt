@@ -1,39 +1,52 @@
--- `row_refresh::renew_part` is `departed`, with the sources as they stand.
-use Rattle.row_refresh.proofs.Chain.{departed-all}
-use native.Mathlib.Omega.{arith}
+-- `row_refresh::renew_part` is `renewed`, from the sources as they stand.
+use mathlib.Core.Path.{_∙_}
+use Prim.Native.Nat.{_+_, _*_}
+use lib.Dec.{ltb}
+use lib.ListN.{length}
+use Rattle.words.specs.Limits.{FAR}
+use Rattle.row_refresh.specs.Model.{sourceIn, filled, sourceKey, renewed}
+use Rattle.row_refresh.proofs.Listing.{listed-count, small-listed, renewable}
 use borrow.Author.Needs.{needs}
+use native.Mathlib.Omega.{arith}
 use Rattle.row_refresh.proofs.renew_part.Statement.{statement}
 use Rattle.row_refresh.proofs.renew_part.Tie as tie
 
-slice-aggregate-list-sources : tie.Need-slice-aggregate-list-sources
-slice-aggregate-list-sources c = search needs
-
-list-sources-requires : tie.Need-list-sources-requires
-list-sources-requires c κs = search needs
-
 slice-aggregate-renew-all : tie.Need-slice-aggregate-renew-all
-slice-aggregate-renew-all c = search needs
+slice-aggregate-renew-all c =
+    let listed′ = c .before .before .before .before .list-sources in
+    listed-count (listed′ .result) (listed′ .last .1 .1 .1 .0) (omega (arith, listed′ .kept .1 .1 .1 .0))
+
+slice-aggregate-renew-all-2 : tie.Need-slice-aggregate-renew-all-2
+slice-aggregate-renew-all-2 c =
+    let listed′ = c .before .before .before .before .before .list-sources in
+    listed-count (listed′ .result) (listed′ .last .1 .1 .1 .1 .0) (omega (arith, listed′ .kept .1 .1 .1 .1 .0))
 
 renew-all-requires : tie.Need-renew-all-requires
-renew-all-requires c κs = search needs
-
-same-length : tie.Need-same-length
-same-length c = search needs
+unfolding filled
+renew-all-requires c κs =
+    let pre′ = c .before .before .before .before .before .before .before .before .before .before .before .pre in
+    let args′ = c .before .before .before .before .before .before .before .before .before .before .before .args in
+    let listed′ = c .before .before .before .before .before .list-sources in
+    renewable (λ i. ltb (sourceIn (args′ .mem .now) (args′ .rows + 4 * i) .distance) FAR) (length (args′ .mem .now)) (args′ .size) (args′ .rows) (args′ .table) (args′ .numbers .now) _ _ (sourceKey (args′ .mem .now) (args′ .rows)) (pre′ .0) (pre′ .1) (pre′ .3) (listed′ .ensures .1) (listed′ .ensures .2) (small-listed (listed′ .result) (listed′ .last .1 .1 .1 .0) (omega (arith, listed′ .kept .1 .1 .1 .0)) (listed′ .ensures .3))
 
 returns : tie.Need-returns
 returns c =
-    let args′ = c .before .before .before .before .before .before .before .before .before .before .args in
-    let list-sources′ = c .before .before .before .before .before .before .list-sources in
+    let args′ = c .before .before .before .before .before .before .before .before .before .before .before .before .before .before .args in
+    let listed′ = c .before .before .before .before .before .before .before .before .list-sources in
     let renew-all′ = c .before .before .renew-all in
-    departed-all (args′ .mem .now) (args′ .rows) (args′ .table) (args′ .size) (args′ .v) _ _ _ (list-sources′ .ensures .0) (list-sources′ .ensures .1) (renew-all′ .ensures)
+    renew-all′ .ensures ∙ λ t. renewed (args′ .numbers .now) (args′ .mem .now) (listed′ .ensures .1 t) (listed′ .ensures .2 t) (args′ .rows) (args′ .table)
 
 pub renew-part-spec : {M : Type 1} → statement M
 renew-part-spec =
     tie.close
     (tie.spec
-    slice-aggregate-list-sources
-    list-sources-requires
+    (search needs)
+    (search needs)
+    (search needs)
+    (search needs)
     slice-aggregate-renew-all
+    (search needs)
+    slice-aggregate-renew-all-2
     renew-all-requires
-    same-length
+    (search needs)
     returns)
