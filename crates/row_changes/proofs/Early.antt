@@ -16,11 +16,13 @@ use Rattle.parts.specs.Tree.{parentOf, holds, children, childOf, isLeaf}
 use Rattle.parts.specs.Border.{boundary, borders}
 use Rattle.parts.specs.Size.{rowVertices}
 use Rattle.parts.proofs.Tree.{Above, here, up, holds-parent, holds-child, one-child}
-use Rattle.parts.proofs.Down.{Tree, boundary-inside, boundary-down, children-says, children-has, borders-child, borders-says, borders-has, border-row, child-found, leaf-childless}
+use Rattle.parts.proofs.Down.{Tree, boundary-inside, boundary-row, children-says, children-has, child-inner, borders-child, borders-says, child-found}
+use Rattle.parts.proofs.Gates.{rows-inner}
 use Rattle.rows.specs.declared.Row.{Row}
 use Rattle.rows.specs.Row.{rowOf}
 use Rattle.rows.specs.Refresh.{onward, rowAbove}
-use Rattle.rows.proofs.Above.{nearestOf, above-exact}
+use Rattle.rows.proofs.Order.{nearestOf}
+use Rattle.rows.proofs.Above.{above-exact}
 use Rattle.row_changes.specs.Switch.{Switched}
 use Rattle.row_changes.proofs.Switch.{switch-elsewhere}
 
@@ -30,8 +32,7 @@ Unseen m before after c = (b : ℕ) → b < m .vertices → boundary m c b ≡ t
 
 module _ (m : Map) (net : Net m) (tree : Tree m) (v : ℕ) (hv : v < m .vertices) {is : Bool} {before after : ℕ → Bool} (switch : Switched v is before after) where
   parent-inner : (c : ℕ) → c ≢ 0 → c < partCount m → isLeaf m (parentOf m c) ≡ false
-  parent-inner c real hc =
-      ⊎-elim (λ leaf. absurd (leaf-childless m (parentOf m c) c leaf (children-has m (parentOf m c) c hc refl real))) (λ inner. inner) (true-or-false (isLeaf m (parentOf m c)))
+  parent-inner c real hc = child-inner m (parentOf m c) c (children-has m (parentOf m c) c hc refl real)
 
   -- the rows of c's parent
   pub parent-unchanged : (c : ℕ) → c ≢ 0 → c < partCount m → holds m c v ≡ true → Unseen m before after c → (r : ℕ) → List·Memᴰ r (borders m (parentOf m c))
@@ -77,13 +78,8 @@ module _ (m : Map) (net : Net m) (tree : Tree m) (v : ℕ) (hv : v < m .vertices
   -- so no boundary row of the parent changed
   unseen-parent : (c : ℕ) → c ≢ 0 → c < partCount m → holds m c v ≡ true → Unseen m before after c → Unseen m before after (parentOf m c)
   unseen-parent c real hc inside unseen b hb on =
-      let d =
-      holds-child m (tree .falls) b (tree .leaf-part b hb) (parentOf m c) (boundary-inside m (parentOf m c) b on)
-      (λ same. true≢false (sym (tree .leaf-leaf b hb) ∙ ap (isLeaf m) (sym same) ∙ parent-inner c real hc))
-      in
       parent-unchanged c real hc inside unseen b
-      (borders-has m (parentOf m c) b (d .0) hb (children-has m (parentOf m c) (d .0) (d .3) (d .4) (d .2))
-      (boundary-down m net tree (d .0) b (d .2) (d .1) (subst⁻¹ (λ (k : ℕ). boundary m k b ≡ true) (d .4) on)))
+      (subst (List·Memᴰ b) (rows-inner m (parentOf m c) (parent-inner c real hc)) (boundary-row m net tree (parentOf m c) b on))
 
   -- the rows of any part q above c
   pub above-unchanged : (q c : ℕ) → Above m q c → q ≢ c → c < partCount m → holds m c v ≡ true → Unseen m before after c → (r : ℕ) → List·Memᴰ r (borders m q)
@@ -104,6 +100,4 @@ module _ (m : Map) (net : Net m) (tree : Tree m) (v : ℕ) (hv : v < m .vertices
 -- Where no row of part c changed, none of its boundary rows did.
 pub unseen-rows : (m : Map) → Net m → Tree m → (before after : ℕ → Bool) (c : ℕ) → c ≢ 0 → c < partCount m
     → ((r : ℕ) → List·Memᴰ r (rowVertices m c) → rowOf m before c r ≡ rowOf m after c r) → Unseen m before after c
-unseen-rows m net tree before after c real hc same b hb on =
-    let child = children-has m (parentOf m c) c hc refl real in
-    same b (border-row m net tree (parentOf m c) b c (borders-has m (parentOf m c) b c hb child on) child (boundary-inside m c b on))
+unseen-rows m net tree before after c real hc same b hb on = same b (boundary-row m net tree c b on)

@@ -10,10 +10,11 @@ use native.Mathlib.Omega.{arith}
 use borrow.Author.Tests.{lt-ltb, le-ltb}
 use Rattle.words.specs.Limits.{FAR}
 use Rattle.words.specs.Lists.{keep}
+use Rattle.words.proofs.Tests.{pair-second}
 use Rattle.rows.specs.declared.Row.{Row}
 use Rattle.rows.specs.Row.{emptyRow, comesBefore, nearer}
 use Rattle.rows.specs.Refresh.{onward}
-use Rattle.rows.proofs.Above.{RowLe, le-self, le-trans, nearer-is, nearestOf}
+use Rattle.rows.proofs.Order.{RowLe, le-self, le-trans, nearer-is, nearestOf}
 
 pub map-same : {A B : Type 0} (f g : A → B) (xs : List A) → ((x : A) → List·Memᴰ x xs → f x ≡ g x) → map f xs ≡ map g xs
 map-same f g [] same = refl
@@ -91,8 +92,7 @@ pub nearer-kept : (a b : Row) → RowLe b a → nearer a b ≡ b
 nearer-kept a b h = le-antisym (nearer a b) b (nearer-is a b .right) (le-nearer b a b h (le-self b))
 
 pub not-before : (a b : Row) → comesBefore a b ≡ false → RowLe b a
-unfolding nearer
-not-before a b late = subst (λ (k : Row). RowLe k a) (ap (λ (t : Bool). cond t a b) late) (nearer-is a b .left)
+not-before a b late = pair-second (a .distance) (a .vertex) (b .distance) (b .vertex) late
 
 -- Some of a list's rows come nearer, and a test shows at least those: it is enough to compare them with what was nearest.
 module _ {A : Type 0} (new : A → Row) (old : A → Row) (test : A → Bool) where

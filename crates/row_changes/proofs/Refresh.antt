@@ -20,11 +20,12 @@ use Rattle.parts.proofs.Down.{Tree}
 use Rattle.rows.specs.declared.Row.{Row}
 use Rattle.rows.specs.Row.{emptyRow, itself, nearer, rowOf}
 use Rattle.rows.specs.Refresh.{onward}
-use Rattle.rows.proofs.Above.{RowLe, le-self, Nearer, nearer-is}
+use Rattle.rows.proofs.Order.{RowLe, le-self, Nearer, nearer-is}
 use Rattle.row_changes.specs.Switch.{Switched, seen}
 use Rattle.row_changes.specs.Source.{source, candidate, rowAnew, rowMet}
 use Rattle.row_changes.proofs.Order.{onward-le, met-nearest}
-use Rattle.row_changes.proofs.Best.{ownRow, row-shown}
+use Rattle.rows.proofs.Least.{ownRow}
+use Rattle.row_changes.proofs.Best.{row-shown}
 use Rattle.row_changes.proofs.Switch.{seen-or-empty, switch-elsewhere, arrival, departure-kept}
 use Rattle.row_changes.proofs.Source.{row-anew}
 

@@ -6,7 +6,6 @@ use mathlib.Core.Bool.{Bool, true, false, cond}
 use mathlib.Core.List.{map, List·Memᴰ}
 use Prim.Native.Nat.{ℕ, _+_, _<_}
 use native.Mathlib.Nat.{zero-add}
-use native.Mathlib.Decide.{ℕ-discrete}
 use native.Mathlib.Omega.{arith}
 use lib.Dec.{ltb, eqb}
 use borrow.Author.Tests.{eqb-true, le-ltb}
@@ -19,16 +18,17 @@ use Rattle.roads.proofs.Trail.{Net}
 use Rattle.parts.specs.Tree.{leafOf, holds, childOf, isLeaf, verticesOf}
 use Rattle.parts.specs.Border.{borders}
 use Rattle.parts.specs.Size.{rowVertices}
-use Rattle.parts.proofs.Tree.{holds-child}
 use Rattle.parts.proofs.Way.{in-own-leaf}
-use Rattle.parts.proofs.Down.{Tree, children-has, leaf-childless, vertices-has}
+use Rattle.parts.proofs.Down.{Tree, leaf-of-held, vertices-has}
 use Rattle.rows.specs.declared.Row.{Row}
 use Rattle.rows.specs.Row.{emptyRow, itself, rowOf}
 use Rattle.rows.specs.Refresh.{onward, rowAbove}
-use Rattle.rows.proofs.Above.{RowLe, nearestOf, nearest-one, nearest-le, above-exact}
+use Rattle.rows.proofs.Order.{RowLe, nearestOf, nearest-one, nearest-le}
+use Rattle.rows.proofs.Above.{above-exact}
 use Rattle.row_changes.specs.Switch.{seen}
 use Rattle.row_changes.specs.Source.{source, candidate, rowAnew}
-use Rattle.row_changes.proofs.Best.{Shown, First, row-by-order}
+use Rattle.rows.proofs.Least.{Shown, First}
+use Rattle.row_changes.proofs.Best.{row-by-order}
 use Rattle.row_changes.proofs.Switch.{seen-near, seen-or-empty}
 
 -- what an active vertex shows of itself is seen with its distance, and an inactive one is not seen
@@ -42,16 +42,6 @@ onward-itself isActive b d = by (isActive b)
 
 module _ (m : Map) (net : Net m) (tree : Tree m) (isActive : ℕ → Bool) (p : ℕ) where
   module _ (leaf : isLeaf m p ≡ true) where
-    -- a leaf holds the vertices that stand in it
-    in-leaf : (u : ℕ) → u < m .vertices → holds m p u ≡ true → leafOf m u ≡ p
-    in-leaf u hu inside = by (ℕ-discrete p (leafOf m u))
-      where
-        by : Dec (p ≡ leafOf m u) → leafOf m u ≡ p
-        by (yes same) = sym same
-        by (no other) =
-            let d = holds-child m (tree .falls) u (tree .leaf-part u hu) p inside other in
-            absurd (leaf-childless m p (d .0) leaf (children-has m p (d .0) (d .3) (d .4) (d .2)))
-
     leaf-says : (b : ℕ) → List·Memᴰ b (verticesOf m p) → (b < m .vertices) × (holds m p b ≡ true)
     unfolding verticesOf
     leaf-says b h =
@@ -86,7 +76,7 @@ module _ (m : Map) (net : Net m) (tree : Tree m) (isActive : ℕ → Bool) (p : 
             subst (RowLe (nearestOf (map offered (verticesOf m p))))
             (onward-itself isActive u (dist m u r) ∙ ap (λ (b : Bool). cond b (seen u (dist m u r)) emptyRow) (a .active) ∙ seen-near u (dist m u r) (a .reaches))
             (nearest-le (map offered (verticesOf m p)) (offered u)
-            (map-has offered (verticesOf m p) u (vertices-has m p u (a .vertex) (in-leaf u (a .vertex) (a .inside)))))
+            (map-has offered (verticesOf m p) u (vertices-has m p u (a .vertex) (leaf-of-held m net tree p u leaf (a .inside)))))
 
   pub row-anew : p < partCount m → (r : ℕ) → List·Memᴰ r (rowVertices m p) → rowOf m isActive p r ≡ rowAnew m isActive p r
   unfolding rowAnew candidate source rowVertices rowAbove

@@ -13,10 +13,11 @@ use Rattle.roads.specs.Dist.{dist}
 use Rattle.parts.specs.Tree.{holds}
 use Rattle.rows.specs.declared.Row.{Row}
 use Rattle.rows.specs.Row.{emptyRow, nearer, rowOf, Arrives}
-use Rattle.rows.proofs.Above.{RowLe, le-trans, nearer-is}
+use Rattle.rows.proofs.Order.{RowLe, le-trans, nearer-is}
 use Rattle.rows.proofs.Elsewhere.{row-elsewhere}
 use Rattle.row_changes.specs.Switch.{Switched, seen}
-use Rattle.row_changes.proofs.Best.{ownRow, Shown, First, row-shown, row-first, row-by-order}
+use Rattle.rows.proofs.Least.{ownRow, Shown, First}
+use Rattle.row_changes.proofs.Best.{row-shown, row-first, row-by-order}
 
 pub seen-near : (v d : ℕ) → d < FAR → seen v d ≡ record { vertex = v; distance = d }
 unfolding seen

@@ -25,7 +25,7 @@ use Rattle.parts.proofs.Down.{Tree, boundary-inside, children-says, borders-chi
 use Rattle.rows.specs.declared.Row.{Row}
 use Rattle.rows.specs.Row.{emptyRow, itself, nearer, rowOf}
 use Rattle.rows.specs.Refresh.{onward}
-use Rattle.rows.proofs.Above.{RowLe}
+use Rattle.rows.proofs.Order.{RowLe}
 use Rattle.image.specs.Places.{rowsAt, itselfAt, tableOf, firstRowOf, rowAt}
 use Rattle.image.specs.Image.{rowBelow}
 use Rattle.image.specs.Records.{rowVertex}

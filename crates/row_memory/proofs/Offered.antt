@@ -14,7 +14,7 @@ use Rattle.words.specs.Lists.{word}
 use Rattle.rows.specs.declared.Row.{Row}
 use Rattle.rows.specs.Row.{emptyRow, nearer}
 use Rattle.rows.specs.Refresh.{onward}
-use Rattle.rows.proofs.Above.{nearer-is}
+use Rattle.rows.proofs.Order.{nearer-is}
 use Rattle.row_refresh.specs.Model.{rowIn, shown, improves, offeredTo, offered}
 use Rattle.row_memory.specs.Kept.{Kept}
 

@@ -15,7 +15,7 @@ use Rattle.words.proofs.Lists.{countFrom-below, keep-says, upTo-has}
 use Rattle.rows.specs.declared.Row.{Row}
 use Rattle.rows.specs.Row.{comesBefore, nearer}
 use Rattle.rows.specs.Refresh.{onward}
-use Rattle.rows.proofs.Above.{RowLe, le-trans, nearer-is}
+use Rattle.rows.proofs.Order.{RowLe, le-trans, nearer-is}
 use Rattle.row_changes.proofs.Order.{onward-le, onward-twice, nearer-kept, not-before, met, met-turn, met-kept, met-again}
 use Rattle.row_refresh.specs.Model.{rowIn, sourceIn, offered, spread, isNews, met as metIn, arrived, anyNews, bringing, lead, led}
 use Rattle.row_refresh.proofs.Chain.{lead-within}

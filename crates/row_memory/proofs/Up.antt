@@ -18,7 +18,7 @@ use Rattle.roads.proofs.Trail.{Net}
 use Rattle.parts.specs.Tree.{parentOf, leafOf, level, holds, isLeaf, verticesOf}
 use Rattle.parts.specs.Border.{borders}
 use Rattle.parts.specs.Size.{rowVertices, sizeOf}
-use Rattle.parts.proofs.Tree.{Above, here, up, Falls, above-least, holds-above, holds-parent, holds-child}
+use Rattle.parts.proofs.Tree.{Above, here, up, Falls, above-least, above-chain, none-between, holds-above, holds-parent, holds-child}
 use Rattle.parts.proofs.Way.{in-own-leaf}
 use Rattle.parts.proofs.Down.{Tree, leaf-childless, children-has}
 use Rattle.rows.specs.Row.{rowOf}
@@ -33,19 +33,6 @@ use Rattle.row_memory.specs.Laid.{Few, Laid, RowsShow}
 use Rattle.row_memory.specs.Refreshed.{Refreshed}
 use Rattle.row_memory.proofs.Levels.{level-falls, level-some}
 use Rattle.row_memory.proofs.Genuine.{laid-kept, others-kept, row-in, untouched, arrived-here, departed-here}
-
-module _ (m : Map) (falls : Falls m) where
-  -- of the parts above l, none stands between another one and its parent
-  none-between : (q p l : ℕ) → l < partCount m → Above m q l → Above m p l → q < p → q ≤ parentOf m p
-  none-between q p l hl here above lower = absurd (omega (arith, above-least m falls l hl above))
-  none-between q p l hl (up root rest) here lower = above-least m falls (parentOf m l) (omega (arith, falls l (omega (arith, root)) hl)) rest
-  none-between q p l hl (up root rest) (up root′ rest′) lower = none-between q p (parentOf m l) (omega (arith, falls l (omega (arith, root)) hl)) rest rest′ lower
-
-  -- of two parts above l, the one with the lower number stands above the other
-  above-other : {q p : ℕ} (l : ℕ) → l < partCount m → Above m q l → Above m p l → q < p → Above m q p
-  above-other l hl here above lower = absurd (omega (arith, above-least m falls l hl above))
-  above-other l hl (up root rest) here lower = up root rest
-  above-other l hl (up root rest) (up root′ rest′) lower = above-other (parentOf m l) (omega (arith, falls l (omega (arith, root)) hl)) rest rest′ lower
 
 -- On the way up, before part p: the rows of p and of the parts above it are as they were, and all others show what they must.
 record Climbing (m : Map) (v : ℕ) (before after : ℕ → Bool) (p : ℕ) (mem : List ℕ) : Type 0 where
@@ -64,7 +51,7 @@ module _ (m : Map) (net : Net m) (tree : Tree m) (few : Few m) (v : ℕ) (hv : v
   -- a part that holds v and stands at no higher number than p, which holds v too, is p or stands above it
   above-it : (p q : ℕ) → p < partCount m → holds m p v ≡ true → holds m q v ≡ true → q < p → Above m q p
   above-it p q hp inside held lower =
-      above-other m (tree .falls) (leafOf m v) (tree .leaf-part v hv) (holds-above m (tree .falls) v (tree .leaf-part v hv) q held) (holds-above m (tree .falls) v (tree .leaf-part v hv) p inside) lower
+      above-chain m (tree .falls) (leafOf m v) (tree .leaf-part v hv) (holds-above m (tree .falls) v (tree .leaf-part v hv) q held) (holds-above m (tree .falls) v (tree .leaf-part v hv) p inside) (omega (arith, lower))
 
   module _ (p : ℕ) (hp : p < partCount m) (inside : holds m p v ≡ true) (mem now : List ℕ) (c : Climbing m v before after p mem)
       (kept : Kept (firstRowOf m p) (sizeOf m p) mem now) (shown : RowsShow m after now p) where

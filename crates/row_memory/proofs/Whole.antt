@@ -19,7 +19,7 @@ use Rattle.parts.specs.Border.{borders}
 use Rattle.parts.specs.Size.{rowVertices, sizeOf, rowCount, need}
 use Rattle.parts.proofs.Tree.{holds-says}
 use Rattle.maps.specs.Sound.{Sound}
-use Rattle.maps.proofs.Distances.{sound-net, sound-tree}
+use Rattle.maps.proofs.Distances.{sound-net, sound-tree, few-rows}
 use Rattle.rows.specs.declared.Row.{Row}
 use Rattle.rows.specs.Row.{emptyRow, itself, rowOf}
 use Rattle.rows.proofs.Elsewhere.{row-elsewhere}
@@ -38,16 +38,7 @@ use Rattle.row_memory.proofs.Apart.{rows-first, table-before, part-befo
 use Rattle.row_memory.proofs.Offered.{shown-row, shown-others, shown-length}
 use Rattle.row_memory.proofs.Up.{refreshed-up}
 
--- a sound map has few rows in each part
-few-rows : (m : Map) → Sound m → (p : ℕ) → p < partCount m → sizeOf m p ≤ 128
-unfolding sizeOf rowVertices
-few-rows m sound p hp = by (isLeaf m p) refl
-  where
-    by : (leaf : Bool) → isLeaf m p ≡ leaf → length (cond leaf (verticesOf m p) (borders m p)) ≤ 128
-    by true e = let most = sound .part p hp .leaf e .1 in omega arith
-    by false e = sound .part p hp .borders e
-
--- and few vertices
+-- a sound map has few vertices, and few rows in each part
 few : (m : Map) → Sound m → Few m
 few m sound = record { vertices = sound .vertices .1; rows = few-rows m sound }
 
