@@ -125,16 +125,18 @@ unfoldable insertAll : List Listed → List Listed → List Listed
 insertAll l [] = l
 insertAll l (e ∷ es) = insertAll (insert e l) es
 
+-- entries that differ from a list's and from one more differ from the list with that one
+still-apart : {l : List Listed} {e : Listed} {es : List Listed} → ((d : Listed) → List·Memᴰ d es → e .van ≢ d .van)
+    → ((d b : Listed) → List·Memᴰ d (e ∷ es) → List·Memᴰ b l → d .van ≢ b .van) → (d b : Listed) → List·Memᴰ d es → List·Memᴰ b (insert e l) → d .van ≢ b .van
+still-apart {l} {e} differ apart d b hd hb =
+    ⊎-elim (λ same. λ alike. differ d hd (sym (alike ∙ ap (λ (c : Listed). c .van) same))) (λ old. apart d b (List·Memᴰ·tail hd) old) (insert-from e l b hb)
+
 insert-all-sorted : {l es : List Listed} → Sorted l → Distinct es → ((e b : Listed) → List·Memᴰ e es → List·Memᴰ b l → e .van ≢ b .van) → Sorted (insertAll l es)
 unfolding insertAll
 insert-all-sorted sort Distinct.none apart = sort
 insert-all-sorted {l} sort (Distinct.more {a = e} {bs = es} differ rest) apart =
     insert-all-sorted (insert-sorted e sort (λ b h. apart e b (List·Memᴰ·head refl) h)) rest
-    (λ d b hd hb.
-    ⊎-elim
-    (λ same. λ alike. differ d hd (sym (alike ∙ ap (λ (c : Listed). c .van) same)))
-    (λ old. apart d b (List·Memᴰ·tail hd) old)
-    (insert-from e l b hb))
+    (still-apart differ apart)
 
 insert-all-has : (l es : List Listed) (c : Listed) → List·Memᴰ c l ⊎ List·Memᴰ c es → List·Memᴰ c (insertAll l es)
 unfolding insertAll
@@ -165,11 +167,7 @@ offer-all k {l} some sort (Distinct.more {a = e} {bs = es} differ rest) near apa
     ap (λ (r : List Listed). offeredAll k r es)
     (offered-is k e (take k l) (take-sorted k sort) (omega (arith, length-take k l)) some (near e (List·Memᴰ·head refl)) ∙ offer-cut k e l)
     ∙ offer-all k some (insert-sorted e sort (λ b h. apart e b (List·Memᴰ·head refl) h)) rest (λ d h. near d (List·Memᴰ·tail h))
-    (λ d b hd hb.
-    ⊎-elim
-    (λ same. λ alike. differ d hd (sym (alike ∙ ap (λ (c : Listed). c .van) same)))
-    (λ old. apart d b (List·Memᴰ·tail hd) old)
-    (insert-from e l b hb))
+    (still-apart differ apart)
 
 -- The start of a list in order.
 

@@ -5,24 +5,6 @@ use borrow.Author.Needs.{needs}
 use Rattle.changes.proofs.arrive.Statement.{statement}
 use Rattle.changes.proofs.arrive.Tie as tie
 
-vertex-at-requires : tie.Need-vertex-at-requires
-vertex-at-requires c κs = search needs
-
-add-word : tie.Need-add-word
-add-word c = search needs
-
-word-requires : tie.Need-word-requires
-word-requires c κs = search needs
-
-put-in-requires : tie.Need-put-in-requires
-put-in-requires c κs = search needs
-
-switch-requires : tie.Need-switch-requires
-switch-requires c κs = search needs
-
-same-length : tie.Need-same-length
-same-length c = search needs
-
 returns : tie.Need-returns
 returns c =
     let a = c .before .before .before .before .before .before .before .before .before .before .before .before .before .args in
@@ -32,9 +14,6 @@ returns c =
     let if1 = c .before .before .before .before .if1 in
     let switch = c .before .before .switch in
     arrives-first (a .mem .now) (a .counts) (a .van) (a .vertex) (a .words) _ _ (vertex-at .ensures) _ (put-in .ensures) (word .ensures) _ (if1 .taken) (switch .ensures)
-
-same-length-2 : tie.Need-same-length-2
-same-length-2 c = search needs
 
 returns-2 : tie.Need-returns-2
 returns-2 c =
@@ -49,12 +28,12 @@ pub arrive-spec : {M : Type 1} → statement M
 arrive-spec =
     tie.close
     (tie.spec
-    vertex-at-requires
-    add-word
-    word-requires
-    put-in-requires
-    switch-requires
-    same-length
+    (search needs)
+    (search needs)
+    (search needs)
+    (search needs)
+    (search needs)
+    (search needs)
     returns
-    same-length-2
+    (search needs)
     returns-2)

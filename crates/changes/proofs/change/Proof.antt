@@ -11,24 +11,12 @@ use borrow.Author.Needs.{needs}
 use Rattle.changes.proofs.change.Statement.{statement}
 use Rattle.changes.proofs.change.Tie as tie
 
-opened-head-requires : tie.Need-opened-head-requires
-opened-head-requires c κs = search needs
-
-same-length : tie.Need-same-length
-same-length c = search needs
-
 returns : tie.Need-returns
 returns c =
     let a = c .before .before .before .before .args in
     let opened-head = c .before .opened-head in
     let if1 = c .if1 in
     changed-unopened (a .change) (a .mem .now) (sym (opened-head .ensures) ∙ not-true _ (if1 .taken))
-
-in-range-requires : tie.Need-in-range-requires
-in-range-requires c κs = search needs
-
-same-length-2 : tie.Need-same-length-2
-same-length-2 c = search needs
 
 returns-2 : tie.Need-returns-2
 returns-2 c =
@@ -38,12 +26,6 @@ returns-2 c =
     let in-range = c .before .in-range in
     let if2 = c .if2 in
     changed-range (a .change) (a .mem .now) (sym (opened-head .ensures) ∙ not-false _ (if1 .left)) (sym (in-range .ensures) ∙ not-true _ (if2 .taken))
-
-word-requires : tie.Need-word-requires
-word-requires c κs = search needs
-
-wide-requires : tie.Need-wide-requires
-wide-requires c κs = search needs
 
 slice-relend-prefix-change-in : tie.Need-slice-relend-prefix-change-in
 slice-relend-prefix-change-in c =
@@ -71,9 +53,6 @@ change-in-requires c κs =
     let ok = sym (in-range .ensures) ∙ not-false _ (if2 .left) in
     (van-in-range (a .change) ok, desk-small (a .change) ok)
 
-same-length-3 : tie.Need-same-length-3
-same-length-3 c = search needs
-
 returns-3 : tie.Need-returns-3
 returns-3 c =
     let a = c .before .before .before .before .before .before .before .before .before .before .before .before .before .args in
@@ -90,16 +69,16 @@ pub change-spec : {M : Type 1} → statement M
 change-spec =
     tie.close
     (tie.spec
-    opened-head-requires
-    same-length
+    (search needs)
+    (search needs)
     returns
-    in-range-requires
-    same-length-2
+    (search needs)
+    (search needs)
     returns-2
-    word-requires
-    wide-requires
+    (search needs)
+    (search needs)
     slice-relend-prefix-change-in
     slice-aggregate-change-in
     change-in-requires
-    same-length-3
+    (search needs)
     returns-3)

@@ -5,30 +5,6 @@ use borrow.Author.Needs.{needs}
 use Rattle.changes.proofs.change_in.Statement.{statement}
 use Rattle.changes.proofs.change_in.Tie as tie
 
-counts-in-requires : tie.Need-counts-in-requires
-counts-in-requires c κs = search needs
-
-van-of-requires : tie.Need-van-of-requires
-van-of-requires c κs = search needs
-
-van-in-requires : tie.Need-van-in-requires
-van-in-requires c κs = search needs
-
-judged-requires : tie.Need-judged-requires
-judged-requires c κs = search needs
-
-enum-known-verdict : tie.Need-enum-known-verdict
-enum-known-verdict c = search needs
-
-enum-known-verdict-2 : tie.Need-enum-known-verdict-2
-enum-known-verdict-2 c = search needs
-
-settle-requires : tie.Need-settle-requires
-settle-requires c κs = search needs
-
-same-length : tie.Need-same-length
-same-length c = search needs
-
 returns : tie.Need-returns
 returns c =
     let a = c .before .before .before .before .before .before .before .before .before .before .before .args in
@@ -38,9 +14,6 @@ returns c =
     let judged = c .before .before .before .judged in
     let verdict = c .before .verdict in
     refused-done (a .mem .now) (a .change) _ _ _ (record { counts-is = counts-in .ensures; van-is = van-of .ensures; old-is = van-in .ensures }) (judged .result) (judged .ensures) _ (verdict .given .1)
-
-same-length-2 : tie.Need-same-length-2
-same-length-2 c = search needs
 
 returns-2 : tie.Need-returns-2
 returns-2 c =
@@ -57,14 +30,14 @@ pub change-in-spec : {M : Type 1} → statement M
 change-in-spec =
     tie.close
     (tie.spec
-    counts-in-requires
-    van-of-requires
-    van-in-requires
-    judged-requires
-    enum-known-verdict
-    enum-known-verdict-2
-    settle-requires
-    same-length
+    (search needs)
+    (search needs)
+    (search needs)
+    (search needs)
+    (search needs)
+    (search needs)
+    (search needs)
+    (search needs)
     returns
-    same-length-2
+    (search needs)
     returns-2)

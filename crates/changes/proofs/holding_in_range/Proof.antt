@@ -11,9 +11,6 @@ returns c =
     let if1 = c .if1 in
     holding-no (a .van) (a .desk) (if1 .taken)
 
-is-within-requires : tie.Need-is-within-requires
-is-within-requires c κs = search needs
-
 returns-2 : tie.Need-returns-2
 returns-2 c =
     let a = c .before .before .args in
@@ -22,4 +19,4 @@ returns-2 c =
     holding-yes (a .van) (a .desk) _ (if1 .left) (is-within .ensures)
 
 pub holding-in-range-spec : {M : Type 1} → statement M
-holding-in-range-spec = tie.close (tie.spec returns is-within-requires returns-2)
+holding-in-range-spec = tie.close (tie.spec returns (search needs) returns-2)

@@ -6,27 +6,6 @@ use borrow.Author.Needs.{needs}
 use Rattle.changes.proofs.in_range.Statement.{statement}
 use Rattle.changes.proofs.in_range.Tie as tie
 
-enum-known-change : tie.Need-enum-known-change
-enum-known-change c = search needs
-
-enum-known-change-2 : tie.Need-enum-known-change-2
-enum-known-change-2 c = search needs
-
-enum-known-change-3 : tie.Need-enum-known-change-3
-enum-known-change-3 c = search needs
-
-enum-known-change-4 : tie.Need-enum-known-change-4
-enum-known-change-4 c = search needs
-
-holding-in-range-requires : tie.Need-holding-in-range-requires
-holding-in-range-requires c κs = search needs
-
-enum-known-change-5 : tie.Need-enum-known-change-5
-enum-known-change-5 c = search needs
-
-holding-in-range-requires-2 : tie.Need-holding-in-range-requires-2
-holding-in-range-requires-2 c κs = search needs
-
 returns : tie.Need-returns
 returns c =
     let a = c .before .before .before .args in
@@ -63,13 +42,13 @@ pub in-range-spec : {M : Type 1} → statement M
 in-range-spec =
     tie.close
     (tie.spec
-    enum-known-change
-    enum-known-change-2
-    enum-known-change-3
-    enum-known-change-4
-    holding-in-range-requires
-    enum-known-change-5
-    holding-in-range-requires-2
+    (search needs)
+    (search needs)
+    (search needs)
+    (search needs)
+    (search needs)
+    (search needs)
+    (search needs)
     returns
     returns-2
     returns-3

@@ -5,39 +5,12 @@ use borrow.Author.Needs.{needs}
 use Rattle.changes.proofs.settle.Statement.{statement}
 use Rattle.changes.proofs.settle.Tie as tie
 
-word-requires : tie.Need-word-requires
-word-requires c κs = search needs
-
-same-length : tie.Need-same-length
-same-length c = search needs
-
 returns : tie.Need-returns
 returns c =
     let a = c .before .before .before .before .args in
     let word = c .before .word in
     let if1 = c .if1 in
     (last-answer (a .mem .now) (a .counts) (a .van) (a .old) (a .new) _ (word .ensures) (if1 .taken), last-words (a .mem .now) (a .counts) (a .van) (a .old) (a .new) _ (word .ensures) (if1 .taken))
-
-add-put : tie.Need-add-put
-add-put c = search needs
-
-put-requires : tie.Need-put-requires
-put-requires c κs = search needs
-
-add-stamped : tie.Need-add-stamped
-add-stamped c = search needs
-
-stamped-requires : tie.Need-stamped-requires
-stamped-requires c κs = search needs
-
-make-requires : tie.Need-make-requires
-make-requires c κs = search needs
-
-add-t13 : tie.Need-add-t13
-add-t13 c = search needs
-
-same-length-2 : tie.Need-same-length-2
-same-length-2 c = search needs
 
 returns-2 : tie.Need-returns-2
 returns-2 c =
@@ -53,14 +26,14 @@ pub settle-spec : {M : Type 1} → statement M
 settle-spec =
     tie.close
     (tie.spec
-    word-requires
-    same-length
+    (search needs)
+    (search needs)
     returns
-    add-put
-    put-requires
-    add-stamped
-    stamped-requires
-    make-requires
-    add-t13
-    same-length-2
+    (search needs)
+    (search needs)
+    (search needs)
+    (search needs)
+    (search needs)
+    (search needs)
+    (search needs)
     returns-2)

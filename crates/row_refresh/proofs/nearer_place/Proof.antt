@@ -5,9 +5,6 @@ use borrow.Author.Needs.{needs}
 use Rattle.row_refresh.proofs.nearer_place.Statement.{statement}
 use Rattle.row_refresh.proofs.nearer_place.Tie as tie
 
-place-seen-requires : tie.Need-place-seen-requires
-place-seen-requires c κs = search needs
-
 returns : tie.Need-returns
 returns c =
     let args′ = c .before .before .args in
@@ -19,4 +16,4 @@ returns-2 c =
     nearer-left (args′ .v) (args′ .x) (args′ .d) (args′ .row) _ (c .before .place-seen .ensures) (omega arith) (omega arith) (c .if1 .left)
 
 pub nearer-place-spec : {M : Type 1} → statement M
-nearer-place-spec = tie.close (tie.spec place-seen-requires returns returns-2)
+nearer-place-spec = tie.close (tie.spec (search needs) returns returns-2)

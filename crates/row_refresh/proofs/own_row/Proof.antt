@@ -4,16 +4,10 @@ use borrow.Author.Needs.{needs}
 use Rattle.row_refresh.proofs.own_row.Statement.{statement}
 use Rattle.row_refresh.proofs.own_row.Tie as tie
 
-showing-requires : tie.Need-showing-requires
-showing-requires c κs = search needs
-
 returns : tie.Need-returns
 returns c =
     let args′ = c .before .before .args in
     own-active (args′ .v) (args′ .active) _ (c .before .if1 .taken) (c .showing .ensures)
-
-empty-requires : tie.Need-empty-requires
-empty-requires c κs = search needs
 
 returns-2 : tie.Need-returns-2
 returns-2 c =
@@ -21,4 +15,4 @@ returns-2 c =
     own-inactive (args′ .v) (args′ .active) _ (c .before .if1 .left) (c .empty .ensures)
 
 pub own-row-spec : {M : Type 1} → statement M
-own-row-spec = tie.close (tie.spec showing-requires returns empty-requires returns-2)
+own-row-spec = tie.close (tie.spec (search needs) returns (search needs) returns-2)

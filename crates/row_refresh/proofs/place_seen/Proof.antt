@@ -5,15 +5,6 @@ use borrow.Author.Needs.{needs}
 use Rattle.row_refresh.proofs.place_seen.Statement.{statement}
 use Rattle.row_refresh.proofs.place_seen.Tie as tie
 
-sub-if1 : tie.Need-sub-if1
-sub-if1 c = search needs
-
-add-place : tie.Need-add-place
-add-place c = search needs
-
-place-requires : tie.Need-place-requires
-place-requires c κs = search needs
-
 returns : tie.Need-returns
 returns c =
     let args′ = c .before .before .args in
@@ -23,4 +14,4 @@ returns-2 : tie.Need-returns-2
 returns-2 c = seen-far (c .before .args .v) (c .before .args .x) (c .before .args .d) (omega arith) (c .if1 .left)
 
 pub place-seen-spec : {M : Type 1} → statement M
-place-seen-spec = tie.close (tie.spec sub-if1 add-place place-requires returns returns-2)
+place-seen-spec = tie.close (tie.spec (search needs) (search needs) (search needs) returns returns-2)

@@ -5,17 +5,8 @@ use borrow.Author.Needs.{needs}
 use Rattle.row_refresh.proofs.row_of.Statement.{statement}
 use Rattle.row_refresh.proofs.row_of.Tie as tie
 
-cast-showing : tie.Need-cast-showing
-cast-showing c = search needs
-
-cast-showing-2 : tie.Need-cast-showing-2
-cast-showing-2 c = search needs
-
-showing-requires : tie.Need-showing-requires
-showing-requires c κs = search needs
-
 returns : tie.Need-returns
 returns c = row-of-is (c .before .args .place) _ _ _ (c .showing .ensures) refl refl
 
 pub row-of-spec : {M : Type 1} → statement M
-row-of-spec = tie.close (tie.spec cast-showing cast-showing-2 showing-requires returns)
+row-of-spec = tie.close (tie.spec (search needs) (search needs) (search needs) returns)

@@ -4,18 +4,6 @@ use borrow.Author.Needs.{needs}
 use Rattle.row_refresh.proofs.show.Statement.{statement}
 use Rattle.row_refresh.proofs.show.Tie as tie
 
-put-requires : tie.Need-put-requires
-put-requires c κs = search needs
-
-add-put : tie.Need-add-put
-add-put c = search needs
-
-put-requires-2 : tie.Need-put-requires-2
-put-requires-2 c κs = search needs
-
-same-length : tie.Need-same-length
-same-length c = search needs
-
 returns : tie.Need-returns
 returns c =
     let args′ = c .before .before .before .before .before .before .before .before .before .args in
@@ -24,4 +12,4 @@ returns c =
     shown-is (args′ .mem .now) (args′ .at) (args′ .row) _ _ (put′ .ensures) (put2′ .ensures)
 
 pub show-spec : {M : Type 1} → statement M
-show-spec = tie.close (tie.spec put-requires add-put put-requires-2 same-length returns)
+show-spec = tie.close (tie.spec (search needs) (search needs) (search needs) (search needs) returns)

@@ -18,27 +18,6 @@ abbrev μ-loop : tie.MeasureT-loop
 loop-holds : tie.Need-loop-holds Inv-loop μ-loop
 loop-holds c = (refl, omega arith, omega arith, refl)
 
-mul-d : tie.Need-mul-d Inv-loop μ-loop
-mul-d c = search needs
-
-slice-read-d : tie.Need-slice-read-d Inv-loop μ-loop
-slice-read-d c = omega arith
-
-offer-requires : tie.Need-offer-requires Inv-loop μ-loop
-offer-requires c κs = omega arith
-
-add-to : tie.Need-add-to Inv-loop μ-loop
-add-to c = omega arith
-
-add-at : tie.Need-add-at Inv-loop μ-loop
-add-at c = omega arith
-
-sub-left : tie.Need-sub-left Inv-loop μ-loop
-sub-left c = omega arith
-
-loop-less : tie.Need-loop-less Inv-loop μ-loop
-loop-less c = omega arith
-
 loop-again : tie.Need-loop-again Inv-loop μ-loop
 loop-again c =
     let loop′ = c .before .before .before .before .before .before .loop in
@@ -61,13 +40,13 @@ spread-line-spec =
     Inv-loop
     μ-loop
     loop-holds
-    mul-d
-    slice-read-d
-    offer-requires
-    add-to
-    add-at
-    sub-left
-    loop-less
+    (search needs)
+    (search needs)
+    (search needs)
+    (search needs)
+    (search needs)
+    (search needs)
+    (search needs)
     loop-again
     same-length
     returns)

@@ -5,45 +5,6 @@ use borrow.Author.Needs.{needs}
 use Rattle.row_refresh.proofs.switch.Statement.{statement}
 use Rattle.row_refresh.proofs.switch.Tie as tie
 
-word-requires : tie.Need-word-requires
-word-requires c κs = search needs
-
-wide-requires : tie.Need-wide-requires
-wide-requires c κs = search needs
-
-mul-at : tie.Need-mul-at
-mul-at c = search needs
-
-add-at : tie.Need-add-at
-add-at c = search needs
-
-wide-requires-2 : tie.Need-wide-requires-2
-wide-requires-2 c κs = search needs
-
-mul-at-2 : tie.Need-mul-at-2
-mul-at-2 c = search needs
-
-add-at-2 : tie.Need-add-at-2
-add-at-2 c = search needs
-
-word-requires-2 : tie.Need-word-requires-2
-word-requires-2 c κs = search needs
-
-add-show : tie.Need-add-show
-add-show c = search needs
-
-own-row-requires : tie.Need-own-row-requires
-own-row-requires c κs = search needs
-
-show-requires : tie.Need-show-requires
-show-requires c κs = search needs
-
-refresh-up-requires : tie.Need-refresh-up-requires
-refresh-up-requires c κs = search needs
-
-same-length : tie.Need-same-length
-same-length c = search needs
-
 returns : tie.Need-returns
 returns c =
     let args′ = c .before .before .before .before .before .before .before .before .before .before .before .before .before .before .before .before .args in
@@ -60,17 +21,17 @@ pub switch-spec : {M : Type 1} → statement M
 switch-spec =
     tie.close
     (tie.spec
-    word-requires
-    wide-requires
-    mul-at
-    add-at
-    wide-requires-2
-    mul-at-2
-    add-at-2
-    word-requires-2
-    add-show
-    own-row-requires
-    show-requires
-    refresh-up-requires
-    same-length
+    (search needs)
+    (search needs)
+    (search needs)
+    (search needs)
+    (search needs)
+    (search needs)
+    (search needs)
+    (search needs)
+    (search needs)
+    (search needs)
+    (search needs)
+    (search needs)
+    (search needs)
     returns)
