@@ -28,12 +28,11 @@ use Rattle.fleet.proofs.Coming.{coming-distinct}
 use Rattle.image.specs.Image.{vertexRecord}
 use Rattle.places.specs.Place.{countsIn, vertexAt}
 use Rattle.best_list.specs.Best.{limitOf, offeredAll}
-use Rattle.best_list.proofs.Offers.{ends}
 use Rattle.van_offers.specs.Offers.{vanOffers}
 use Rattle.van_offers.specs.Genuine.{Genuine}
 use Rattle.van_offers.proofs.Shown.{vertex-read}
 use Rattle.van_offers.proofs.Heading.{head-below}
-use Rattle.van_offers.proofs.Comers.{comers, Comer, comer-says, comer-near, comer-far}
+use Rattle.van_offers.proofs.Comers.{Comer, comer-far, settled}
 use Rattle.near_vans.specs.Around.{Around, vanHead, isOffered, Searching, Fresh, Started, Least, Taken, Opened, SameTaken, MetAll}
 use Rattle.near_vans.proofs.Exact.{nearer-taken, least-exact}
 use Rattle.near_vans.proofs.Taking.{now-taken, not-taken, others-as-before, taken-around}
@@ -101,20 +100,16 @@ module _ {m : Map} {s : State} {mem : List ℕ} (g : Genuine m s mem) (x : ℕ) 
   module _ {at labels vertices : List ℕ} {n : ℕ} {found : List Listed} (st : Searching m s x k at labels vertices n found) where
     -- The end: all that waits is farther than the limit.
     pub stopped : ((i : ℕ) → i < n → limitOf k found < word labels i) → found ≡ nearest m s x k
-    unfolding nearest
-    stopped beyond = st .list ∙ ends k some (comers g x) (coming-distinct m x 0 (s .vans)) (comer-near g x) (isOffered m s at) (λ l h. rest l (comer-says g x l h))
+    stopped beyond = settled g x k some (isOffered m s at) (st .list) rest
       where
-        limit : limitOf k found ≡ limitOf k (take k (sorted (keep (isOffered m s at) (comingFrom m x 0 (s .vans)))))
-        limit = ap (limitOf k) (st .list)
-
-        rest : (l : Listed) → Comer g x l → (isOffered m s at l ≡ true) ⊎ (limitOf k (take k (sorted (keep (isOffered m s at) (comingFrom m x 0 (s .vans))))) < l .distance)
+        rest : (l : Listed) → Comer g x l → (isOffered m s at l ≡ true) ⊎ (limitOf k found < l .distance)
         rest l c = by (decLt (limitOf k found) (dist m v x))
           where
             v : ℕ
             v = headOf m (c .van)
 
-            by : Dec (limitOf k found < dist m v x) → (isOffered m s at l ≡ true) ⊎ (limitOf k (take k (sorted (keep (isOffered m s at) (comingFrom m x 0 (s .vans))))) < l .distance)
-            by (yes far) = inr (omega (arith, far, comer-far g x l c, limit))
+            by : Dec (limitOf k found < dist m v x) → (isOffered m s at l ≡ true) ⊎ (limitOf k found < l .distance)
+            by (yes far) = inr (omega (arith, far, comer-far g x l c))
             by (no near) =
                 inl
                 (offered-is g x at l c

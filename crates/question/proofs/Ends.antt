@@ -31,7 +31,7 @@ use Rattle.fleet.specs.State.{Van, absent, State, slotOf, headOf, headsFor, act
 use Rattle.fleet.specs.Question.{Listed, comingFrom, sorted, nearest}
 use Rattle.fleet.proofs.Coming.{coming-distinct}
 use Rattle.best_list.specs.Best.{limitOf, offeredAll}
-use Rattle.best_list.proofs.Offers.{bestOf, ends, limit-below}
+use Rattle.best_list.proofs.Offers.{limit-below}
 use Rattle.places.specs.Place.{countsIn}
 use Rattle.van_offers.specs.Offers.{leafOffers}
 use Rattle.far_sums.specs.Least.{Least}
@@ -39,7 +39,7 @@ use Rattle.part_bounds.specs.Bounds.{partWord, rowsIn, lowered, keyAt}
 use Rattle.part_bounds.proofs.Lowering.{lowered-length, lowered-found}
 use Rattle.van_offers.specs.Genuine.{Genuine}
 use Rattle.van_offers.proofs.Heading.{head-below, head-active}
-use Rattle.van_offers.proofs.Comers.{comers, Comer, comer-says, comer-near, comer-far}
+use Rattle.van_offers.proofs.Comers.{comers, Comer, comer-near, settled}
 use Rattle.question.specs.Kept.{Relaxed, BoundOutside, Coming, Covered, Waits, Searching, vanLeaf, isOffered}
 use Rattle.question.proofs.Shown.{active-shown}
 use Rattle.question.proofs.Exact.{still-honest, exact-out, known-out, exact-own, known-own}
@@ -179,14 +179,10 @@ module _ {m : Map} {s : State} {mem : List ℕ} (g : Genuine m s mem) (x : ℕ) 
 
     -- The search stops: what lies outside and what waits is farther than the limit.
     pub stopped : (key : ℕ) → Least (keyAt keys waits) n key → limitOf k found < out → limitOf k found < key → found ≡ nearest m s x k
-    unfolding nearest isOffered keyAt
-    stopped key least beyond-out beyond-key =
-        st .list ∙ ends k some (comers g x) (coming-distinct m x 0 (s .vans)) (comer-near g x) (isOffered m s marks) (λ l h. rest l (comer-says g x l h))
+    unfolding isOffered keyAt
+    stopped key least beyond-out beyond-key = settled g x k some (isOffered m s marks) (st .list) rest
       where
-        limit : limitOf k found ≡ limitOf k (take k (sorted (keep (isOffered m s marks) (comingFrom m x 0 (s .vans)))))
-        limit = ap (limitOf k) (st .list)
-
-        rest : (l : Listed) → Comer g x l → (isOffered m s marks l ≡ true) ⊎ (limitOf k (take k (sorted (keep (isOffered m s marks) (comingFrom m x 0 (s .vans))))) < l .distance)
+        rest : (l : Listed) → Comer g x l → (isOffered m s marks l ≡ true) ⊎ (limitOf k found < l .distance)
         rest l c = by (true-or-false (holds m part v))
           where
             v : ℕ
@@ -195,12 +191,12 @@ module _ {m : Map} {s : State} {mem : List ℕ} (g : Genuine m s mem) (x : ℕ) 
             comes : Coming m s x v × (dist m v x ≤ l .distance)
             comes = comer-comes l c
 
-            by : (holds m part v ≡ true) ⊎ (holds m part v ≡ false) → (isOffered m s marks l ≡ true) ⊎ (limitOf k (take k (sorted (keep (isOffered m s marks) (comingFrom m x 0 (s .vans))))) < l .distance)
-            by (inr out′) = inr (omega (arith, st .outside v (comes .0 .vertex) out′, comes .1, limit))
+            by : (holds m part v ≡ true) ⊎ (holds m part v ≡ false) → (isOffered m s marks l ≡ true) ⊎ (limitOf k found < l .distance)
+            by (inr out′) = inr (omega (arith, st .outside v (comes .0 .vertex) out′, comes .1))
             by (inl inside) =
                 ⊎-elim
                 (λ marked. inl (eq-eqb _ 1 (ap (word marks) (comer-leaf g x l c) ∙ marked)))
-                (λ (t, ht, from, held). inr (omega (arith, least .below t ht, st .waiting t ht .bound v (comes .0) held, comes .1, limit)))
+                (λ (t, ht, from, held). inr (omega (arith, least .below t ht, st .waiting t ht .bound v (comes .0) held, comes .1)))
                 (st .inside v (comes .0) inside)
 
     -- the limit of the list is below FAR
