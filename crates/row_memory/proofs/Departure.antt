@@ -17,7 +17,7 @@ use Rattle.rows.specs.declared.Row.{Row}
 use Rattle.rows.specs.Row.{emptyRow, nearer}
 use Rattle.rows.specs.Refresh.{onward}
 use Rattle.row_changes.proofs.Order.{met, met-turn, met-kept}
-use Rattle.row_refresh.specs.Model.{rowIn, shown, sourceIn, showing, filled, keyed, farKey, unkeyed, sourceKey, lesser, gathered, renewed, departed}
+use Rattle.row_refresh.specs.Model.{rowIn, shown, sourceIn, showsIn, showing, filled, keyed, farKey, unkeyed, sourceKey, lesser, gathered, renewed, remade, departed}
 use Rattle.row_memory.specs.Kept.{Kept}
 use Rattle.row_memory.proofs.Offered.{Plain, onward-plain, nearer-plain, nearer-empty, shown-row, OneRow, kept-self, kept-trans, one-shown, one-self}
 use Rattle.row_memory.proofs.Keys.{KeyOf, key-none, key-nearer}
@@ -28,11 +28,11 @@ abbrev pub Fits : ℕ → (ℕ → Row) → Type 0
 Fits size from = (i : ℕ) → i < size → from i .vertex < 65536
 
 -- Where no row shows v, none is made anew.
-pub departed-none : (mem : List ℕ) (rows table size v : ℕ) → ltb 0 (length (showing mem rows size v)) ≡ false → departed mem rows table size v ≡ mem
-unfolding departed renewed
-departed-none mem rows table size v none = by (showing mem rows size v) none
+pub departed-none : (mem : List ℕ) (rows table size v : ℕ) → ltb 0 (length (showing mem rows size v false)) ≡ false → departed mem rows table size v ≡ mem
+unfolding remade renewed
+departed-none mem rows table size v none = by (showing mem rows size v false) none
   where
-    by : (numbers : List ℕ) → ltb 0 (length numbers) ≡ false → renewed numbers mem (map (sourceKey mem rows) (filled mem rows size)) (map (λ i. size * i) (filled mem rows size)) rows table ≡ mem
+    by : (numbers : List ℕ) → ltb 0 (length numbers) ≡ false → remade numbers mem rows table size ≡ mem
     by [] e = refl
     by (i ∷ numbers) e = absurd (true≢false (sym (lt-ltb 0 (length (i ∷ numbers)) (omega arith)) ∙ e))
 
@@ -142,7 +142,7 @@ module _ (rows size table : ℕ) (from : ℕ → Row) (far : ℕ → ℕ → ℕ
 
   pub departed-rows : (v : ℕ) (mem : List ℕ) → Ready rows size table from far mem
       → Rows rows size table from far (λ j. cond (eqb (rowIn mem (rows + 4 * j) .vertex) v) (anew j) (rowIn mem (rows + 4 * j))) mem (departed mem rows table size v)
-  unfolding departed showing
+  unfolding remade showing showsIn
   departed-rows v mem ready =
       let whole =
       renewed-from (λ i. eqb (word mem (rows + 4 * i)) v) mem (map (sourceKey mem rows) (filled mem rows size)) (map (λ i. size * i) (filled mem rows size)) gathers size 0 mem (omega arith) (ready .fits) (kept-self rows size mem)

@@ -33,7 +33,7 @@ use Rattle.row_changes.specs.Switch.{Switched}
 use Rattle.row_changes.specs.Source.{source, candidate, rowAnew, rowMet}
 use Rattle.row_changes.proofs.Best.{row-shown, row-closed}
 use Rattle.row_changes.proofs.Refresh.{row-met, row-left}
-use Rattle.row_refresh.specs.Model.{rowIn, sourceIn, bringing, led, partAt, rowsHere, fits, changed, touches, refreshed, touched}
+use Rattle.row_refresh.specs.Model.{rowIn, sourceIn, showing, led, partAt, rowsHere, fits, changed, touches, refreshed, touched}
 use Rattle.row_memory.specs.Kept.{Kept}
 use Rattle.row_memory.specs.Laid.{Few, Laid, RowsShow}
 use Rattle.row_memory.proofs.Apart.{rows-last, rows-first, table-last, table-before, part-before, itself-before, early, beside}
@@ -185,7 +185,7 @@ module _ (m : Map) (net : Net m) (tree : Tree m) (p : ℕ) (hp : p < partCount m
     unfolding touches changed
     untouched true none =
         here true
-        ∙ arrived-none (firstRowOf m p) (sizeOf m p) (tableOf m p) (λ i. emptyRow) (λ i j. 0) v (led (bringing mem (firstRowOf m p) (sizeOf m p) v) mem (firstRowOf m p)) mem (sym (here-touched true) ∙ none)
+        ∙ arrived-none (firstRowOf m p) (sizeOf m p) (tableOf m p) (λ i. emptyRow) (λ i j. 0) v (led (showing mem (firstRowOf m p) (sizeOf m p) v true) mem (firstRowOf m p)) mem (sym (here-touched true) ∙ none)
     untouched false none = here false ∙ departed-none mem (firstRowOf m p) (tableOf m p) (sizeOf m p) v (sym (here-touched false) ∙ none)
 
     closed : Closed (firstRowOf m p) (sizeOf m p) (tableOf m p) (λ i. source m after p (rowVertex m p i)) (λ i j. dist m (rowVertex m p i) (rowVertex m p j)) mem

@@ -17,7 +17,7 @@ use Rattle.rows.specs.Row.{comesBefore, nearer}
 use Rattle.rows.specs.Refresh.{onward}
 use Rattle.rows.proofs.Order.{RowLe, le-trans, nearer-is}
 use Rattle.row_changes.proofs.Order.{onward-le, onward-twice, nearer-kept, not-before, met, met-turn, met-kept, met-again}
-use Rattle.row_refresh.specs.Model.{rowIn, sourceIn, offered, spread, isNews, met as metIn, arrived, anyNews, bringing, lead, led}
+use Rattle.row_refresh.specs.Model.{rowIn, sourceIn, offered, spread, isNews, met as metIn, arrived, anyNews, showsIn, showing, lead, led}
 use Rattle.row_refresh.proofs.Chain.{lead-within}
 use Rattle.row_memory.specs.Kept.{Kept}
 use Rattle.row_memory.proofs.Offered.{Plain, onward-plain, nearer-plain, offered-row, OneRow, kept-self, kept-trans, one-offered}
@@ -214,8 +214,8 @@ module _ (rows size table : ℕ) (from : ℕ → Row) (far : ℕ → ℕ → ℕ
 
     -- all sources that show v are, and the others change nothing
     pub arrived-rows : size ≤ 128 → Triangle size far → (mem : List ℕ) → Ready rows size table from far mem → PlainRows mem → Closed mem
-        → Rows (λ j. met (seenFrom j) (seenFrom j) showsIt (rowIn mem (rows + 4 * j)) (countFrom 0 size)) mem (arrived (led (bringing mem rows size v) mem rows) mem rows table size v)
-    unfolding bringing led arrived
+        → Rows (λ j. met (seenFrom j) (seenFrom j) showsIt (rowIn mem (rows + 4 * j)) (countFrom 0 size)) mem (arrived (led (showing mem rows size v true) mem rows) mem rows table size v)
+    unfolding showing showsIn led arrived
     arrived-rows few triangle mem ready plain closed = by (keep brings (upTo size)) refl
       where
         brings : ℕ → Bool

@@ -1,8 +1,8 @@
 -- What a function's calls, one after the other, come to. Each law is over plain values, so that a need only names its facts.
 -- Assumes nothing.
 use mathlib.Core.Path.{_≡_, refl, sym, _∙_, ap}
-use mathlib.Core.Bool.{Bool, true, false, _||_, _&&_, cond}
-use mathlib.Core.List.{List, [], _∷_, map, List·Memᴰ, List·Memᴰ·head, List·Memᴰ·tail}
+use mathlib.Core.Bool.{Bool, true, false, _||_, _&&_, cond, true≢false}
+use mathlib.Core.List.{List, [], _∷_, List·Memᴰ, List·Memᴰ·head, List·Memᴰ·tail}
 use mathlib.Core.Logic.{inl, inr}
 use Prim.Native.Nat.{ℕ, zero, suc, _+_, _-_, _*_, _/_, _%_, _≤_, _<_}
 use native.Mathlib.Nat.{mul-suc, mul-le-mul-left}
@@ -17,7 +17,7 @@ use Rattle.words.specs.Limits.{FAR}
 use Rattle.words.proofs.Tests.{PairBefore, pair-if}
 use Rattle.rows.specs.declared.Row.{Row}
 use Rattle.rows.specs.Row.{emptyRow, comesBefore}
-use Rattle.row_refresh.specs.Model.{rowIn, shown, sourceIn, improves, offeredTo, offered, placed, unplaced, placedSeen, spread, isNews, met, arrived, anyNews, bringing, leadFrom, lead, led, showing, filled, farKey, unkeyed, sourceKey, lesser, gathered, renewed, departed, partAt, rowsHere, fits, changed, touches, refreshed, touched, refreshedUp, vertexAt, ownRow, switched}
+use Rattle.row_refresh.specs.Model.{rowIn, shown, sourceIn, improves, offeredTo, offered, placed, unplaced, placedSeen, spread, isNews, met, arrived, anyNews, showing, leadFrom, lead, led, farKey, unkeyed, lesser, gathered, renewed, remade, partAt, rowsHere, fits, changed, touches, refreshed, touched, refreshedUp, vertexAt, ownRow, switched}
 
 pub square-most : (n : ℕ) → n ≤ 128 → n * n ≤ 16384
 square-most n h = omega (arith, mul-le-mul-left {m = n} {n = 128} n h)
@@ -252,47 +252,40 @@ unfolding renewed
 renewed-done numbers mem keys steps rows table k h = ap (λ (l : List ℕ). renewed l mem keys steps rows table) (drop-of-length-le numbers h)
 
 -- One part.
-module _ (mem : List ℕ) (rows table size v : ℕ) where
-  module _ (numbers : List ℕ) (e : numbers ≡ bringing mem rows size v) where
-    pub arrived-some : (end : List ℕ) (any : Bool) → 0 < length numbers
-        → (end ≡ arrived (lead numbers mem rows ∷ numbers) mem rows table size v) × (any ≡ anyNews false (lead numbers mem rows ∷ numbers) mem rows table size v)
-        → (end ≡ changed mem rows table size v true) × (any ≡ touches mem rows table size v true)
-    unfolding changed touches led
-    arrived-some end any some h = (
-      h .0 ∙ ap (λ (l : List ℕ). arrived l mem rows table size v) (led-some numbers some ∙ ap (λ (l : List ℕ). led l mem rows) e),
-      h .1 ∙ ap (λ (l : List ℕ). anyNews false l mem rows table size v) (led-some numbers some ∙ ap (λ (l : List ℕ). led l mem rows) e),
-    )
-      where
-        led-some : (l : List ℕ) → 0 < length l → lead l mem rows ∷ l ≡ led l mem rows
-        led-some [] some = absurd (omega arith)
-        led-some (i ∷ l) some = refl
-
-    pub arrived-none : length numbers ≤ 0 → (mem ≡ changed mem rows table size v true) × (false ≡ touches mem rows table size v true)
-    unfolding changed touches led arrived anyNews
-    arrived-none none = (
-      ap (λ (l : List ℕ). arrived (led l mem rows) mem rows table size v) (sym (drop-of-length-le numbers none) ∙ e),
-      ap (λ (l : List ℕ). anyNews false (led l mem rows) mem rows table size v) (sym (drop-of-length-le numbers none) ∙ e),
-    )
-
-  pub changed-as : (is was : Bool) (end : List ℕ) (any : Bool) → is ≡ was → (end ≡ changed mem rows table size v was) × (any ≡ touches mem rows table size v was)
+module _ (mem : List ℕ) (rows table size v : ℕ) (numbers : List ℕ) where
+  -- its sources bring v
+  pub changed-arrived : (is : Bool) → is ≡ true → numbers ≡ showing mem rows size v is → 0 < length numbers → (end : List ℕ) (any : Bool)
+      → (end ≡ arrived (lead numbers mem rows ∷ numbers) mem rows table size v) × (any ≡ anyNews false (lead numbers mem rows ∷ numbers) mem rows table size v)
       → (end ≡ changed mem rows table size v is) × (any ≡ touches mem rows table size v is)
-  changed-as is was end any e h = rw e h
+  unfolding changed touches led
+  changed-arrived false p e some end any h = absurd (true≢false (sym p))
+  changed-arrived true p e some end any h = (h .0 ∙ ap (λ (l : List ℕ). arrived l mem rows table size v) whole, h .1 ∙ ap (λ (l : List ℕ). anyNews false l mem rows table size v) whole)
+    where
+      led-some : (l : List ℕ) → 0 < length l → lead l mem rows ∷ l ≡ led l mem rows
+      led-some [] some = absurd (omega arith)
+      led-some (i ∷ l) some = refl
 
-  module _ (numbers : List ℕ) (e : numbers ≡ showing mem rows size v) where
-    pub departed-none : length numbers ≤ 0 → (mem ≡ changed mem rows table size v false) × (false ≡ touches mem rows table size v false)
-    unfolding changed touches departed renewed
-    departed-none none = (
-      ap (λ (l : List ℕ). renewed l mem (map (sourceKey mem rows) (filled mem rows size)) (map (λ i. size * i) (filled mem rows size)) rows table) (sym (drop-of-length-le numbers none) ∙ e),
-      sym (le-ltb 0 (length numbers) none) ∙ ap (λ (l : List ℕ). ltb 0 (length l)) e,
-    )
+      whole : lead numbers mem rows ∷ numbers ≡ led (showing mem rows size v true) mem rows
+      whole = led-some numbers some ∙ ap (λ (l : List ℕ). led l mem rows) e
 
-    pub departed-some : (end : List ℕ) → 0 < length numbers → end ≡ renewed numbers mem (map (sourceKey mem rows) (filled mem rows size)) (map (λ i. size * i) (filled mem rows size)) rows table
-        → (end ≡ changed mem rows table size v false) × (true ≡ touches mem rows table size v false)
-    unfolding changed touches departed
-    departed-some end some h = (
-      h ∙ ap (λ (l : List ℕ). renewed l mem (map (sourceKey mem rows) (filled mem rows size)) (map (λ i. size * i) (filled mem rows size)) rows table) e,
-      sym (lt-ltb 0 (length numbers) some) ∙ ap (λ (l : List ℕ). ltb 0 (length l)) e,
-    )
+  -- some of its rows show v
+  pub changed-departed : (is : Bool) → is ≡ false → numbers ≡ showing mem rows size v is → 0 < length numbers → (end : List ℕ)
+      → end ≡ remade numbers mem rows table size → (end ≡ changed mem rows table size v is) × (true ≡ touches mem rows table size v is)
+  unfolding changed touches
+  changed-departed true p e some end h = absurd (true≢false p)
+  changed-departed false p e some end h = (
+    h ∙ ap (λ (l : List ℕ). remade l mem rows table size) e,
+    sym (lt-ltb 0 (length numbers) some) ∙ ap (λ (l : List ℕ). ltb 0 (length l)) e,
+  )
+
+  -- v is nowhere in it
+  pub changed-none : (is : Bool) → numbers ≡ showing mem rows size v is → length numbers ≤ 0 → (mem ≡ changed mem rows table size v is) × (false ≡ touches mem rows table size v is)
+  unfolding changed touches led arrived anyNews remade renewed
+  changed-none is e none = by is (sym (drop-of-length-le numbers none) ∙ e)
+    where
+      by : (b : Bool) → [] ≡ showing mem rows size v b → (mem ≡ changed mem rows table size v b) × (false ≡ touches mem rows table size v b)
+      by true empty = (ap (λ (l : List ℕ). arrived (led l mem rows) mem rows table size v) empty, ap (λ (l : List ℕ). anyNews false (led l mem rows) mem rows table size v) empty)
+      by false empty = (ap (λ (l : List ℕ). remade l mem rows table size) empty, ap (λ (l : List ℕ). ltb 0 (length l)) empty)
 
 -- A part's record.
 module _ (mem : List ℕ) (p : ℕ) where

@@ -13,6 +13,7 @@ use lib.Seq.{take-suc-set, take-set-le, length-take-le, getD-take, getD-set-same
 use Rattle.words.specs.Lists.{word, upTo, countFrom, keep, placeIn}
 use Rattle.words.proofs.Lists.{countFrom-below, keep-says, map-at, place-in}
 use Rattle.words.proofs.Places.{entry-in}
+use Rattle.row_refresh.specs.Model.{showsIn, showing}
 use Rattle.row_refresh.specs.Lists.{Within, Small, Renewable}
 
 map-same : (xs : List ℕ) → map (λ i. i) xs ≡ xs
@@ -87,6 +88,10 @@ entry-within size numbers within i h = let at = place-in i numbers h in omega (a
 pub kept-within : (test : ℕ → Bool) (size : ℕ) (numbers : List ℕ) → numbers ≡ keep test (upTo size) → Within size numbers
 kept-within test size numbers e k h =
     omega (arith, countFrom-below 0 size (word numbers k) (keep-says test (upTo size) (word numbers k) (subst (λ (l : List ℕ). List·Memᴰ (word numbers k) l) e (entry-in numbers k 0 h)) .0))
+
+pub showing-within : (mem : List ℕ) (rows size v : ℕ) (below : Bool) (numbers : List ℕ) → numbers ≡ showing mem rows size v below → Within size numbers
+unfolding showing
+showing-within mem rows size v below numbers e = kept-within (λ i. showsIn mem (rows + 4 * i) v below) size numbers e
 
 -- the rows with these numbers, and the steps of the part's sources, lie within the memory
 pub renewable : (test : ℕ → Bool) (long size rows table : ℕ) (numbers keys steps : List ℕ) (f : ℕ → ℕ) → rows + 4 * size ≤ long → table + size * size ≤ long → Within size numbers

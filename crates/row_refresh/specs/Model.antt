@@ -47,6 +47,14 @@ placedSeen v x d = cond (ltb (x + d) FAR) (placed v (x + d)) 1844674407370955161
 unfoldable pub lesser : ℕ → ℕ → ℕ
 lesser a b = cond (ltb b a) b a
 
+-- a row shows v, or, with `below`, its source does
+unfoldable pub showsIn : List ℕ → ℕ → ℕ → Bool → Bool
+showsIn mem row v below = cond below (eqb (sourceIn mem row .vertex) v) (eqb (word mem row) v)
+
+-- the numbers of such rows
+unfoldable pub showing : List ℕ → ℕ → ℕ → ℕ → Bool → List ℕ
+showing mem rows size v below = keep (λ i. showsIn mem (rows + 4 * i) v below) (upTo size)
+
 -- An arrival.
 
 -- v at distance x is offered to `left` rows from `to` on, with the distances that stand from `at` on
@@ -72,10 +80,6 @@ unfoldable pub anyNews : Bool → List ℕ → List ℕ → ℕ → ℕ → ℕ 
 anyNews any [] mem rows table size v = any
 anyNews any (i ∷ numbers) mem rows table size v = anyNews (isNews mem v (rows + 4 * i) || any) numbers (met mem rows size v (rows + 4 * i) (table + size * i)) rows table size v
 
--- the numbers of the rows whose source shows v
-unfoldable pub bringing : List ℕ → ℕ → ℕ → ℕ → List ℕ
-bringing mem rows size v = keep (λ i. eqb (sourceIn mem (rows + 4 * i) .vertex) v) (upTo size)
-
 -- the least of `best` and of the places of these numbers, each at its source's distance
 unfoldable pub leadFrom : List ℕ → List ℕ → ℕ → ℕ → ℕ
 leadFrom [] mem rows best = best
@@ -91,10 +95,6 @@ led [] mem rows = []
 led (i ∷ numbers) mem rows = lead (i ∷ numbers) mem rows ∷ i ∷ numbers
 
 -- A departure.
-
--- the numbers of the rows that show v
-unfoldable pub showing : List ℕ → ℕ → ℕ → ℕ → List ℕ
-showing mem rows size v = keep (λ i. eqb (word mem (rows + 4 * i)) v) (upTo size)
 
 -- the numbers of the rows whose source is not empty
 unfoldable pub filled : List ℕ → ℕ → ℕ → List ℕ
@@ -127,10 +127,13 @@ renewed [] mem keys steps rows table = mem
 renewed (i ∷ numbers) mem keys steps rows table =
     renewed numbers (shown mem (rows + 4 * i) (unkeyed (gathered keys steps mem (table + i) farKey))) keys steps rows table
 
--- v departed: each row that shows it is made anew from the sources as they stand
-unfoldable pub departed : List ℕ → ℕ → ℕ → ℕ → ℕ → List ℕ
-departed mem rows table size v =
-    renewed (showing mem rows size v) mem (map (sourceKey mem rows) (filled mem rows size)) (map (λ i. size * i) (filled mem rows size)) rows table
+-- so they are from the part's sources as they stand
+unfoldable pub remade : List ℕ → List ℕ → ℕ → ℕ → ℕ → List ℕ
+remade numbers mem rows table size = renewed numbers mem (map (sourceKey mem rows) (filled mem rows size)) (map (λ i. size * i) (filled mem rows size)) rows table
+
+-- v departed: this for each row that shows it
+abbrev pub departed : List ℕ → ℕ → ℕ → ℕ → ℕ → List ℕ
+departed mem rows table size v = remade (showing mem rows size v false) mem rows table size
 
 -- One part: what it is by its record.
 
@@ -147,11 +150,11 @@ fits mem rows table size = leb (rows + 4 * size) (length mem) && leb (table + si
 
 -- the rows after v arrived (`is` true) or departed
 unfoldable pub changed : List ℕ → ℕ → ℕ → ℕ → ℕ → Bool → List ℕ
-changed mem rows table size v is = cond is (arrived (led (bringing mem rows size v) mem rows) mem rows table size v) (departed mem rows table size v)
+changed mem rows table size v is = cond is (arrived (led (showing mem rows size v true) mem rows) mem rows table size v) (departed mem rows table size v)
 
 -- whether any row may have changed
 unfoldable pub touches : List ℕ → ℕ → ℕ → ℕ → ℕ → Bool → Bool
-touches mem rows table size v is = cond is (anyNews false (led (bringing mem rows size v) mem rows) mem rows table size v) (ltb 0 (length (showing mem rows size v)))
+touches mem rows table size v is = cond is (anyNews false (led (showing mem rows size v true) mem rows) mem rows table size v) (ltb 0 (length (showing mem rows size v false)))
 
 unfoldable pub refreshed : List ℕ → ℕ → ℕ → Bool → List ℕ
 refreshed mem p v is =

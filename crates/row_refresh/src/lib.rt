@@ -11,7 +11,7 @@ ghost use Prim.Native.Nat.{_+_, _*_, _/_, _%_, _≤_, _<_};
 ghost use lib.ListN.{length, take};
 ghost use Rattle.words.specs.Lists.{word};
 ghost use Rattle.rows.specs.Row.{comesBefore};
-ghost use Rattle.row_refresh.specs.Model.{rowIn, shown, sourceIn, offeredTo, offered, placed, unplaced, placedSeen, spread, isNews, met, arrived, anyNews, bringing, lead, showing, filled, farKey, unkeyed, sourceKey, lesser, gathered, renewed, rowsHere, changed, touches, refreshed, touched, refreshedUp, ownRow, switched};
+ghost use Rattle.row_refresh.specs.Model.{rowIn, shown, sourceIn, offeredTo, offered, placed, unplaced, placedSeen, spread, isNews, met, arrived, anyNews, showsIn, showing, lead, filled, farKey, unkeyed, sourceKey, lesser, gathered, renewed, remade, rowsHere, changed, touches, refreshed, touched, refreshedUp, ownRow, switched};
 ghost use Rattle.row_refresh.specs.Lists.{Within, Small, Steps, Renewable};
 
 const MOST_ROWS: usize = 128;
@@ -118,23 +118,24 @@ fn comes_first(mem: &[u32], s: Row, row: usize) -> bool
     place(s.vertex, s.distance) < here
 }
 
-// Where the source of a row shows v, and comes before what the row itself shows, it is offered to all rows of the part.
+// Where the source of row number i shows v, and comes before what the row itself shows, it is offered to all rows of the part.
 fn meet(
     mem: &mut [u32],
     rows: usize,
+    table: usize,
     size: usize,
     v: u32,
-    row: usize,
-    line: usize,
+    i: usize,
     any: bool,
 ) -> bool
-    requires { ⌜ (rows + 4 * size ≤ length (now mem)) × (line + size ≤ length (now mem)) × (row + 3 < length (now mem)) ⌝ }
-    ensures { λ r. ⌜ (now (mem .exit) ≡ met (now (mem .entry)) rows size v row line) × (r ≡ (isNews (now (mem .entry)) v row || any)) ⌝ }
+    requires { ⌜ (rows + 4 * size ≤ length (now mem)) × (table + size * size ≤ length (now mem)) × (size ≤ 128) × (i < size) ⌝ }
+    ensures { λ r. ⌜ (now (mem .exit) ≡ met (now (mem .entry)) rows size v (rows + 4 * i) (table + size * i)) × (r ≡ (isNews (now (mem .entry)) v (rows + 4 * i) || any)) ⌝ }
 {
+    let row = rows + 4 * i;
     let s = source(mem, row);
     if s.vertex == v {
         if comes_first(mem, s, row) {
-            spread_line(mem, rows, line, size, v, s.distance);
+            spread_line(mem, rows, table + size * i, size, v, s.distance);
             return true;
         }
     }
@@ -158,8 +159,7 @@ fn meet_all(
     let mut any = already;
     let mut k = 0;
     while k < n {
-        let i = wide(numbers[k]);
-        any = meet(mem, rows, size, v, rows + 4 * i, table + size * i, any);
+        any = meet(mem, rows, table, size, v, wide(numbers[k]), any);
         k += 1;
     }
     any
@@ -177,19 +177,37 @@ fn more(n: usize, is: bool) -> usize
     n
 }
 
-// The numbers of those of `size` rows whose source shows v. Says how many there are.
-fn list_bringing(mem: &[u32], rows: usize, size: usize, v: u32, numbers: &mut [u32]) -> usize
+// Whether a row shows v, or, with `below`, its source does.
+fn shows(mem: &[u32], row: usize, v: u32, below: bool) -> bool
+    requires { ⌜ row + 3 < length (now mem) ⌝ }
+    ensures { λ r. ⌜ r ≡ showsIn (now (mem .entry)) row v below ⌝ }
+{
+    if below {
+        let s = source(mem, row);
+        return s.vertex == v;
+    }
+    mem[row] == v
+}
+
+// The numbers of those of `size` rows that show v, or, with `below`, whose sources do. Says how many there are.
+fn list_showing(
+    mem: &[u32],
+    rows: usize,
+    size: usize,
+    v: u32,
+    below: bool,
+    numbers: &mut [u32],
+) -> usize
     requires { ⌜ (rows + 4 * size ≤ length (now mem)) × (size ≤ length (now numbers)) × (size ≤ 128) ⌝ }
-    ensures { λ r. ⌜ (r ≤ size) × (take r (now (numbers .exit)) ≡ bringing (now (mem .entry)) rows size v) ⌝ }
+    ensures { λ r. ⌜ (r ≤ size) × (take r (now (numbers .exit)) ≡ showing (now (mem .entry)) rows size v below) ⌝ }
 {
     let mut row = rows;
     let mut i: u32 = 0;
     let mut n = 0;
     let mut left = size;
     while 0 < left {
-        let s = source(mem, row);
         numbers[n] = i;
-        n = more(n, s.vertex == v);
+        n = more(n, shows(mem, row, v, below));
         row += 4;
         i += 1;
         left -= 1;
@@ -227,40 +245,8 @@ fn meet_led(
     ensures { λ r. ⌜ (now (mem .exit) ≡ arrived (lead (now (numbers .entry)) (now (mem .entry)) rows ∷ now (numbers .entry)) (now (mem .entry)) rows table size v) × (r ≡ anyNews false (lead (now (numbers .entry)) (now (mem .entry)) rows ∷ now (numbers .entry)) (now (mem .entry)) rows table size v) ⌝ }
 {
     let i = nearest_number(mem, numbers, rows, size);
-    let any = meet(mem, rows, size, v, rows + 4 * i, table + size * i, false);
+    let any = meet(mem, rows, table, size, v, i, false);
     meet_all(mem, numbers, rows, table, size, v, any)
-}
-
-// v arrived in a part with these rows and this table. Says whether any source was offered.
-fn arrive(mem: &mut [u32], rows: usize, table: usize, size: usize, v: u32) -> bool
-    requires { ⌜ (rows + 4 * size ≤ length (now mem)) × (table + size * size ≤ length (now mem)) × (size ≤ 128) ⌝ }
-    ensures { λ r. ⌜ (now (mem .exit) ≡ changed (now (mem .entry)) rows table size v true) × (r ≡ touches (now (mem .entry)) rows table size v true) ⌝ }
-{
-    let mut numbers = [0u32; 128];
-    let n = list_bringing(mem, rows, size, v, &mut numbers);
-    if 0 < n {
-        return meet_led(mem, &numbers[..n], rows, table, size, v);
-    }
-    false
-}
-
-// The numbers of those of `size` rows that show v. Says how many there are.
-fn list_showing(mem: &[u32], rows: usize, size: usize, v: u32, numbers: &mut [u32]) -> usize
-    requires { ⌜ (rows + 4 * size ≤ length (now mem)) × (size ≤ length (now numbers)) × (size ≤ 128) ⌝ }
-    ensures { λ r. ⌜ (r ≤ size) × (take r (now (numbers .exit)) ≡ showing (now (mem .entry)) rows size v) ⌝ }
-{
-    let mut row = rows;
-    let mut i: u32 = 0;
-    let mut n = 0;
-    let mut left = size;
-    while 0 < left {
-        numbers[n] = i;
-        n = more(n, mem[row] == v);
-        row += 4;
-        i += 1;
-        left -= 1;
-    }
-    n
 }
 
 // A row as a key, to which a distance can be added: of two rows whose vertices are below 65,536 the one that comes before has the lesser.
@@ -360,26 +346,12 @@ fn renew_all(
 // The rows with these numbers are made anew from the part's sources as they stand.
 fn renew_part(mem: &mut [u32], numbers: &[u32], rows: usize, table: usize, size: usize)
     requires { ⌜ (rows + 4 * size ≤ length (now mem)) × (table + size * size ≤ length (now mem)) × (size ≤ 128) × Within size (now numbers) ⌝ }
-    ensures { λ _. ⌜ now (mem .exit) ≡ renewed (now (numbers .entry)) (now (mem .entry)) (map (sourceKey (now (mem .entry)) rows) (filled (now (mem .entry)) rows size)) (map (λ i. size * i) (filled (now (mem .entry)) rows size)) rows table ⌝ }
+    ensures { λ _. ⌜ now (mem .exit) ≡ remade (now (numbers .entry)) (now (mem .entry)) rows table size ⌝ }
 {
     let mut keys = [0u64; 128];
     let mut steps = [0usize; 128];
     let n = list_sources(mem, rows, size, &mut keys, &mut steps);
     renew_all(mem, numbers, &keys[..n], &steps[..n], rows, table);
-}
-
-// v departed from a part with these rows and this table. Says whether any row showed it.
-fn depart(mem: &mut [u32], rows: usize, table: usize, size: usize, v: u32) -> bool
-    requires { ⌜ (rows + 4 * size ≤ length (now mem)) × (table + size * size ≤ length (now mem)) × (size ≤ 128) ⌝ }
-    ensures { λ r. ⌜ (now (mem .exit) ≡ changed (now (mem .entry)) rows table size v false) × (r ≡ touches (now (mem .entry)) rows table size v false) ⌝ }
-{
-    let mut numbers = [0u32; 128];
-    let n = list_showing(mem, rows, size, v, &mut numbers);
-    if 0 < n {
-        renew_part(mem, &numbers[..n], rows, table, size);
-        return true;
-    }
-    false
 }
 
 // How many rows part p has: no more than a sound map allows, whatever stands there.
@@ -393,15 +365,37 @@ fn rows_here(mem: &[u32], p: u32) -> usize
     n
 }
 
+// v arrived in a part or departed from it: the rows with these numbers, whose sources show it or which still do. Says whether any row may have changed.
+fn change_listed(
+    mem: &mut [u32],
+    numbers: &[u32],
+    rows: usize,
+    table: usize,
+    size: usize,
+    v: u32,
+    arrives: bool,
+) -> bool
+    requires { ⌜ (rows + 4 * size ≤ length (now mem)) × (table + size * size ≤ length (now mem)) × (size ≤ 128) × (0 < length (now numbers)) × (now numbers ≡ showing (now mem) rows size v arrives) ⌝ }
+    ensures { λ r. ⌜ (now (mem .exit) ≡ changed (now (mem .entry)) rows table size v arrives) × (r ≡ touches (now (mem .entry)) rows table size v arrives) ⌝ }
+{
+    if arrives {
+        return meet_led(mem, numbers, rows, table, size, v);
+    }
+    renew_part(mem, numbers, rows, table, size);
+    true
+}
+
 // The rows of a part, after v arrived in it or departed from it. Says whether any row may have changed.
 fn change(mem: &mut [u32], rows: usize, table: usize, size: usize, v: u32, arrives: bool) -> bool
     requires { ⌜ (rows + 4 * size ≤ length (now mem)) × (table + size * size ≤ length (now mem)) × (size ≤ 128) ⌝ }
     ensures { λ r. ⌜ (now (mem .exit) ≡ changed (now (mem .entry)) rows table size v arrives) × (r ≡ touches (now (mem .entry)) rows table size v arrives) ⌝ }
 {
-    if arrives {
-        return arrive(mem, rows, table, size, v);
+    let mut numbers = [0u32; 128];
+    let n = list_showing(mem, rows, size, v, arrives, &mut numbers);
+    if 0 < n {
+        return change_listed(mem, &numbers[..n], rows, table, size, v, arrives);
     }
-    depart(mem, rows, table, size, v)
+    false
 }
 
 // The same, of part p by its record; where its rows or its table would not lie within the memory nothing is done.

@@ -27,195 +27,6 @@ abbrev refresh-up-below : ℕ → In 1 refresh-up-kinds.ps
 refresh-up-below t =
     and 1 refresh-up-kinds.ps (falls 1 refresh-up-kinds.ps _<_ μ-refresh-up t) refresh-up.Pre
 
-refresh-up-refresh-requires : (t : ℕ) → refresh-up-lts.Need-refresh-requires (
-  refresh-reads.Asked,
-  refresh-reads.Learnt,
-  wide-reads.Asked,
-  wide-reads.Learnt,
-  word-reads.Asked,
-  word-reads.Learnt,
-  refresh-up-below t,
-  refresh-up.Post,
-) (refresh-up-at t) refresh-up.Post
-refresh-up-refresh-requires t c κs = search needs
-
-refresh-up-wide-requires : (t : ℕ) → refresh-up-lts.Need-wide-requires (
-  refresh-reads.Asked,
-  refresh-reads.Learnt,
-  wide-reads.Asked,
-  wide-reads.Learnt,
-  word-reads.Asked,
-  word-reads.Learnt,
-  refresh-up-below t,
-  refresh-up.Post,
-) (refresh-up-at t) refresh-up.Post
-refresh-up-wide-requires t c κs = search needs
-
-refresh-up-mul-word : (t : ℕ) → refresh-up-lts.Need-mul-word (
-  refresh-reads.Asked,
-  refresh-reads.Learnt,
-  wide-reads.Asked,
-  wide-reads.Learnt,
-  word-reads.Asked,
-  word-reads.Learnt,
-  refresh-up-below t,
-  refresh-up.Post,
-) (refresh-up-at t) refresh-up.Post
-refresh-up-mul-word t c = search needs
-
-refresh-up-add-word : (t : ℕ) → refresh-up-lts.Need-add-word (
-  refresh-reads.Asked,
-  refresh-reads.Learnt,
-  wide-reads.Asked,
-  wide-reads.Learnt,
-  word-reads.Asked,
-  word-reads.Learnt,
-  refresh-up-below t,
-  refresh-up.Post,
-) (refresh-up-at t) refresh-up.Post
-refresh-up-add-word t c = search needs
-
-refresh-up-word-requires : (t : ℕ) → refresh-up-lts.Need-word-requires (
-  refresh-reads.Asked,
-  refresh-reads.Learnt,
-  wide-reads.Asked,
-  wide-reads.Learnt,
-  word-reads.Asked,
-  word-reads.Learnt,
-  refresh-up-below t,
-  refresh-up.Post,
-) (refresh-up-at t) refresh-up.Post
-refresh-up-word-requires t c κs = search needs
-
-refresh-up-sub-refresh-up : (t : ℕ) → refresh-up-lts.Need-sub-refresh-up (
-  refresh-reads.Asked,
-  refresh-reads.Learnt,
-  wide-reads.Asked,
-  wide-reads.Learnt,
-  word-reads.Asked,
-  word-reads.Learnt,
-  refresh-up-below t,
-  refresh-up.Post,
-) (refresh-up-at t) refresh-up.Post
-refresh-up-sub-refresh-up t c = search needs
-
-refresh-up-refresh-up-requires : (t : ℕ) → refresh-up-lts.Need-refresh-up-requires (
-  refresh-reads.Asked,
-  refresh-reads.Learnt,
-  wide-reads.Asked,
-  wide-reads.Learnt,
-  word-reads.Asked,
-  word-reads.Learnt,
-  refresh-up-below t,
-  refresh-up.Post,
-) (refresh-up-at t) refresh-up.Post
-refresh-up-refresh-up-requires t c κs =
-    let word′ = c .before .before .word in
-    let pre′ = c .before .before .before .before .before .before .before .before .before .before .before .before .pre in
-    (subst (λ (k : ℕ). word′ .result < k) (pre′ .0) (c .before .if3 .taken), omega arith)
-
-refresh-up-same-length : (t : ℕ) → refresh-up-lts.Need-same-length (
-  refresh-reads.Asked,
-  refresh-reads.Learnt,
-  wide-reads.Asked,
-  wide-reads.Learnt,
-  word-reads.Asked,
-  word-reads.Learnt,
-  refresh-up-below t,
-  refresh-up.Post,
-) (refresh-up-at t) refresh-up.Post
-refresh-up-same-length t c = search needs
-
-refresh-up-returns : (t : ℕ) → refresh-up-lts.Need-returns (
-  refresh-reads.Asked,
-  refresh-reads.Learnt,
-  wide-reads.Asked,
-  wide-reads.Learnt,
-  word-reads.Asked,
-  word-reads.Learnt,
-  refresh-up-below t,
-  refresh-up.Post,
-) (refresh-up-at t) refresh-up.Post
-refresh-up-returns t c =
-    let args′ = c .before .before .before .before .before .before .before .before .before .before .before .before .before .before .before .args in
-    let refresh′ = c .before .before .before .before .before .before .before .before .before .before .before .refresh in
-    let wide′ = c .before .before .before .before .before .before .wide in
-    let word′ = c .before .before .before .before .before .word in
-    let if2′ = c .before .before .before .before .before .before .before .before .if2 in
-    let if3′ = c .before .before .before .before .if3 in
-    let refresh-up′ = c .before .before .refresh-up in
-    up-turn (args′ .mem .now) (args′ .p) (args′ .v) (args′ .arrives) (args′ .levels - 1) (args′ .levels) _ _ (omega arith) (refresh′ .ensures) _ _ (wide′ .ensures) (word′ .ensures) (if2′ .taken) _ _ refl (if3′ .taken) (refresh-up′ .ensures)
-
-refresh-up-same-length-2 : (t : ℕ) → refresh-up-lts.Need-same-length-2 (
-  refresh-reads.Asked,
-  refresh-reads.Learnt,
-  wide-reads.Asked,
-  wide-reads.Learnt,
-  word-reads.Asked,
-  word-reads.Learnt,
-  refresh-up-below t,
-  refresh-up.Post,
-) (refresh-up-at t) refresh-up.Post
-refresh-up-same-length-2 t c = search needs
-
-refresh-up-returns-2 : (t : ℕ) → refresh-up-lts.Need-returns-2 (
-  refresh-reads.Asked,
-  refresh-reads.Learnt,
-  wide-reads.Asked,
-  wide-reads.Learnt,
-  word-reads.Asked,
-  word-reads.Learnt,
-  refresh-up-below t,
-  refresh-up.Post,
-) (refresh-up-at t) refresh-up.Post
-refresh-up-returns-2 t c =
-    let args′ = c .before .before .before .before .before .before .before .before .before .before .before .args in
-    let refresh′ = c .before .before .before .before .before .before .before .refresh in
-    let wide′ = c .before .before .wide in
-    let if2′ = c .before .before .before .before .if2 in
-    up-end (args′ .mem .now) (args′ .p) (args′ .v) (args′ .arrives) (args′ .levels - 1) (args′ .levels) _ _ (omega arith) (refresh′ .ensures) _ _ (wide′ .ensures) (c .before .word .ensures) (if2′ .taken) (c .if3 .left)
-
-refresh-up-same-length-3 : (t : ℕ) → refresh-up-lts.Need-same-length-3 (
-  refresh-reads.Asked,
-  refresh-reads.Learnt,
-  wide-reads.Asked,
-  wide-reads.Learnt,
-  word-reads.Asked,
-  word-reads.Learnt,
-  refresh-up-below t,
-  refresh-up.Post,
-) (refresh-up-at t) refresh-up.Post
-refresh-up-same-length-3 t c = search needs
-
-refresh-up-returns-3 : (t : ℕ) → refresh-up-lts.Need-returns-3 (
-  refresh-reads.Asked,
-  refresh-reads.Learnt,
-  wide-reads.Asked,
-  wide-reads.Learnt,
-  word-reads.Asked,
-  word-reads.Learnt,
-  refresh-up-below t,
-  refresh-up.Post,
-) (refresh-up-at t) refresh-up.Post
-refresh-up-returns-3 t c =
-    let args′ = c .before .before .before .before .before .before .before .args in
-    let refresh′ = c .before .before .before .refresh in
-    up-untouched (args′ .mem .now) (args′ .p) (args′ .v) (args′ .arrives) (args′ .levels - 1) (args′ .levels) _ _ (omega arith) (refresh′ .ensures) (c .if2 .left)
-
-refresh-up-returns-4 : (t : ℕ) → refresh-up-lts.Need-returns-4 (
-  refresh-reads.Asked,
-  refresh-reads.Learnt,
-  wide-reads.Asked,
-  wide-reads.Learnt,
-  word-reads.Asked,
-  word-reads.Learnt,
-  refresh-up-below t,
-  refresh-up.Post,
-) (refresh-up-at t) refresh-up.Post
-refresh-up-returns-4 t c =
-    let args′ = c .before .before .args in
-    up-done (args′ .mem .now) (args′ .p) (args′ .v) (args′ .arrives) (args′ .levels) (c .if1 .left)
-
 pub +refresh-up-spec : {M : Type 1} → statement M
 +refresh-up-spec = close μ-refresh-up λ t. refresh-up-lts.spec (
   refresh-reads.Asked,
@@ -229,17 +40,37 @@ pub +refresh-up-spec : {M : Type 1} → statement M
 )
     (refresh-up-at t)
     refresh-up.Post
-    (refresh-up-refresh-requires t)
-    (refresh-up-wide-requires t)
-    (refresh-up-mul-word t)
-    (refresh-up-add-word t)
-    (refresh-up-word-requires t)
-    (refresh-up-sub-refresh-up t)
-    (refresh-up-refresh-up-requires t)
-    (refresh-up-same-length t)
-    (refresh-up-returns t)
-    (refresh-up-same-length-2 t)
-    (refresh-up-returns-2 t)
-    (refresh-up-same-length-3 t)
-    (refresh-up-returns-3 t)
-    (refresh-up-returns-4 t)
+    (search needs)
+    (search needs)
+    (search needs)
+    (search needs)
+    (search needs)
+    (search needs)
+    (λ c κs.
+    let pre′ = c .before .before .before .before .before .before .before .before .before .before .before .before .pre in
+    (subst (λ (k : ℕ). c .before .before .word .result < k) (pre′ .0) (c .before .if3 .taken), omega arith))
+    (search needs)
+    (λ c.
+    let args′ = c .before .before .before .before .before .before .before .before .before .before .before .before .before .before .before .args in
+    let refresh′ = c .before .before .before .before .before .before .before .before .before .before .before .refresh in
+    let wide′ = c .before .before .before .before .before .before .wide in
+    let word′ = c .before .before .before .before .before .word in
+    let if2′ = c .before .before .before .before .before .before .before .before .if2 in
+    let if3′ = c .before .before .before .before .if3 in
+    let refresh-up′ = c .before .before .refresh-up in
+    up-turn (args′ .mem .now) (args′ .p) (args′ .v) (args′ .arrives) (args′ .levels - 1) (args′ .levels) _ _ (omega arith) (refresh′ .ensures) _ _ (wide′ .ensures) (word′ .ensures) (if2′ .taken) _ _ refl (if3′ .taken) (refresh-up′ .ensures))
+    (search needs)
+    (λ c.
+    let args′ = c .before .before .before .before .before .before .before .before .before .before .before .args in
+    let refresh′ = c .before .before .before .before .before .before .before .refresh in
+    let wide′ = c .before .before .wide in
+    let if2′ = c .before .before .before .before .if2 in
+    up-end (args′ .mem .now) (args′ .p) (args′ .v) (args′ .arrives) (args′ .levels - 1) (args′ .levels) _ _ (omega arith) (refresh′ .ensures) _ _ (wide′ .ensures) (c .before .word .ensures) (if2′ .taken) (c .if3 .left))
+    (search needs)
+    (λ c.
+    let args′ = c .before .before .before .before .before .before .before .args in
+    let refresh′ = c .before .before .before .refresh in
+    up-untouched (args′ .mem .now) (args′ .p) (args′ .v) (args′ .arrives) (args′ .levels - 1) (args′ .levels) _ _ (omega arith) (refresh′ .ensures) (c .if2 .left))
+    (λ c.
+    let args′ = c .before .before .args in
+    up-done (args′ .mem .now) (args′ .p) (args′ .v) (args′ .arrives) (args′ .levels) (c .if1 .left))

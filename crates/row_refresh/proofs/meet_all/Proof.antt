@@ -1,9 +1,9 @@
 -- `row_refresh::meet_all` is `arrived`, and says `anyNews`: what is left to meet from here stays the whole.
 use mathlib.Core.Path.{_≡_, refl, sym, _∙_}
-use Prim.Native.Nat.{_-_, _≤_, _<_}
+use Prim.Native.Nat.{_-_, _≤_}
 use lib.ListN.{length, drop}
 use Rattle.row_refresh.specs.Model.{arrived, anyNews}
-use Rattle.row_refresh.proofs.Chain.{arrived-turn, arrived-done, news-turn, news-done, line-within, square-most}
+use Rattle.row_refresh.proofs.Chain.{arrived-turn, arrived-done, news-turn, news-done}
 use borrow.Author.Needs.{needs}
 use native.Mathlib.Omega.{arith}
 use Rattle.row_refresh.proofs.meet_all.Statement.{statement}
@@ -18,32 +18,14 @@ abbrev μ-loop : tie.MeasureT-loop
 loop-holds : tie.Need-loop-holds Inv-loop μ-loop
 loop-holds c = (refl, omega arith, refl, refl)
 
-mul-meet : tie.Need-mul-meet Inv-loop μ-loop
-mul-meet c = omega (arith, c .before .wide .ensures, c .before .before .before .before .before .before .before .pre .3 (c .before .before .before .before .loop .k) (omega arith))
-
-add-meet : tie.Need-add-meet Inv-loop μ-loop
-add-meet c = omega (arith, c .before .wide .ensures, c .before .before .before .before .before .before .before .pre .3 (c .before .before .before .before .loop .k) (omega arith))
-
-mul-meet-2 : tie.Need-mul-meet-2 Inv-loop μ-loop
-mul-meet-2 c =
-    let i′ : c .before .wide .result < c .before .before .before .before .before .before .before .args .size = omega (arith, c .before .wide .ensures, c .before .before .before .before .before .before .before .pre .3 (c .before .before .before .before .loop .k) (omega arith)) in
-    omega (arith, line-within (c .before .before .before .before .before .before .before .args .size) (c .before .wide .result) i′, square-most (c .before .before .before .before .before .before .before .args .size) (omega arith))
-
-add-meet-2 : tie.Need-add-meet-2 Inv-loop μ-loop
-add-meet-2 c =
-    let i′ : c .before .wide .result < c .before .before .before .before .before .before .before .args .size = omega (arith, c .before .wide .ensures, c .before .before .before .before .before .before .before .pre .3 (c .before .before .before .before .loop .k) (omega arith)) in
-    omega (arith, line-within (c .before .before .before .before .before .before .before .args .size) (c .before .wide .result) i′, square-most (c .before .before .before .before .before .before .before .args .size) (omega arith))
-
 meet-requires : tie.Need-meet-requires Inv-loop μ-loop
-meet-requires c κs =
-    let i′ : c .before .wide .result < c .before .before .before .before .before .before .before .args .size = omega (arith, c .before .wide .ensures, c .before .before .before .before .before .before .before .pre .3 (c .before .before .before .before .loop .k) (omega arith)) in
-    (omega arith, omega (arith, line-within (c .before .before .before .before .before .before .before .args .size) (c .before .wide .result) i′), omega arith)
+meet-requires c κs = (search needs, search needs, search needs, omega (arith, c .wide .ensures, c .before .before .before .before .before .before .before .pre .3 (c .before .before .before .before .loop .k) (omega arith)))
 
 loop-again : tie.Need-loop-again Inv-loop μ-loop
 loop-again c =
     let args′ = c .before .before .before .before .before .before .before .before .before .before .args in
     let loop′ = c .before .before .before .before .before .before .before .loop in
-    let wide′ = c .before .before .before .before .wide in
+    let wide′ = c .before .before .before .wide in
     let meet′ = c .before .before .meet in
     (search needs, omega arith, arrived-turn (args′ .numbers .now) (loop′ .k) (omega arith) (loop′ .mem) _ (args′ .rows) (args′ .table) (args′ .size) (args′ .v) _ (wide′ .ensures) (meet′ .ensures .0) ∙ loop′ .inv .2, news-turn (args′ .numbers .now) (loop′ .k) (omega arith) (loop′ .mem) _ (args′ .rows) (args′ .table) (args′ .size) (args′ .v) _ (wide′ .ensures) (meet′ .ensures .0) (loop′ .any) _ (meet′ .ensures .1) ∙ loop′ .inv .3)
 
@@ -66,10 +48,6 @@ meet-all-spec =
     (search needs)
     (search needs)
     (search needs)
-    mul-meet
-    add-meet
-    mul-meet-2
-    add-meet-2
     meet-requires
     (search needs)
     (search needs)

@@ -4,7 +4,7 @@ use Prim.Native.Nat.{_+_, _*_}
 use lib.Dec.{ltb}
 use lib.ListN.{length}
 use Rattle.words.specs.Limits.{FAR}
-use Rattle.row_refresh.specs.Model.{sourceIn, filled, sourceKey, renewed}
+use Rattle.row_refresh.specs.Model.{sourceIn, filled, sourceKey, renewed, remade}
 use Rattle.row_refresh.proofs.Listing.{listed-count, small-listed, renewable}
 use borrow.Author.Needs.{needs}
 use native.Mathlib.Omega.{arith}
@@ -30,6 +30,7 @@ renew-all-requires c κs =
     renewable (λ i. ltb (sourceIn (args′ .mem .now) (args′ .rows + 4 * i) .distance) FAR) (length (args′ .mem .now)) (args′ .size) (args′ .rows) (args′ .table) (args′ .numbers .now) _ _ (sourceKey (args′ .mem .now) (args′ .rows)) (pre′ .0) (pre′ .1) (pre′ .3) (listed′ .ensures .1) (listed′ .ensures .2) (small-listed (listed′ .result) (listed′ .last .1 .1 .1 .0) (omega (arith, listed′ .kept .1 .1 .1 .0)) (listed′ .ensures .3))
 
 returns : tie.Need-returns
+unfolding remade
 returns c =
     let args′ = c .before .before .before .before .before .before .before .before .before .before .before .before .before .before .args in
     let listed′ = c .before .before .before .before .before .before .before .before .list-sources in
