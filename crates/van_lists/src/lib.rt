@@ -9,7 +9,7 @@ use places::vertex_at;
 ghost use mathlib.Core.Path.{_≡_};
 ghost use Prim.Native.Nat.{_<_};
 ghost use Rattle.van_lists.specs.Slot.{stamped};
-ghost use Rattle.van_lists.specs.Walk.{vanIn, behind, written, takenOut, putIn};
+ghost use Rattle.van_lists.specs.Walk.{vanIn, behind, written, relinked, takenOut, putIn};
 
 // The first four words of a van's record.
 pub struct VanWords {
@@ -97,16 +97,30 @@ pub fn write_van(mem: &mut [u32], counts: Counts, van: u32, words: VanWords)
     put(mem, at + 3, words.stamp);
 }
 
+// The link at `before` goes on to `next` and the van's own to `link`, and the van stands as `words` say.
+fn write_links(
+    mem: &mut [u32],
+    counts: Counts,
+    van: u32,
+    before: usize,
+    next: u32,
+    link: u32,
+    words: VanWords,
+)
+    ensures { λ _. ⌜ now (mem .exit) ≡ written (relinked (now (mem .entry)) counts van before next link) counts van words ⌝ }
+{
+    put(mem, before, next);
+    put(mem, van_at(counts, van) + 4, link);
+    write_van(mem, counts, van, words);
+}
+
 // A free van leaves the list of the vertex that it heads for, and stands as `words` say.
 pub fn take_out(mem: &mut [u32], counts: Counts, van: u32, vertex: u32, words: VanWords)
     ensures { λ _. ⌜ now (mem .exit) ≡ takenOut (now (mem .entry)) counts van vertex words ⌝ }
 {
-    let link = van_at(counts, van) + 4;
-    let next = word(mem, link);
     let before = behind(mem, counts, vertex, van);
-    put(mem, before, next);
-    put(mem, link, 0);
-    write_van(mem, counts, van, words);
+    let next = word(mem, van_at(counts, van) + 4);
+    write_links(mem, counts, van, before, next, 0, words);
 }
 
 // A van that is not free enters the list of a vertex, and stands as `words` say.
@@ -114,10 +128,7 @@ pub fn put_in(mem: &mut [u32], counts: Counts, van: u32, vertex: u32, words: Van
     requires { ⌜ van < 1024 ⌝ }
     ensures { λ _. ⌜ now (mem .exit) ≡ putIn (now (mem .entry)) counts van vertex words ⌝ }
 {
-    let link = van_at(counts, van) + 4;
     let before = behind(mem, counts, vertex, van);
     let next = word(mem, before);
-    put(mem, before, van + 1);
-    put(mem, link, next);
-    write_van(mem, counts, van, words);
+    write_links(mem, counts, van, before, van + 1, next, words);
 }
