@@ -1,8 +1,8 @@
 -- An early end: where no boundary row of a part changed, no row above it changes.
 -- Assumes nothing.
 use mathlib.Core.Path.{_≡_, refl, sym, _∙_, ap, subst, subst⁻¹}
-use mathlib.Core.Logic.{_⊎_, inl, inr, ⊎-elim, _≢_}
-use mathlib.Core.Bool.{Bool, true, false, true≢false}
+use mathlib.Core.Logic.{⊎-elim, _≢_}
+use mathlib.Core.Bool.{Bool, true, false}
 use mathlib.Core.List.{List·Memᴰ}
 use Prim.Native.Nat.{ℕ, _<_}
 use native.Mathlib.Decide.{ℕ-discrete}
@@ -12,11 +12,11 @@ use Rattle.row_changes.proofs.Order.{map-same}
 use Rattle.roads.specs.Map.{Map, partCount}
 use Rattle.roads.specs.Dist.{dist}
 use Rattle.roads.proofs.Trail.{Net}
-use Rattle.parts.specs.Tree.{parentOf, holds, children, childOf, isLeaf}
+use Rattle.parts.specs.Tree.{parentOf, holds, childOf, isLeaf}
 use Rattle.parts.specs.Border.{boundary, borders}
 use Rattle.parts.specs.Size.{rowVertices}
-use Rattle.parts.proofs.Tree.{Above, here, up, holds-parent, holds-child, one-child}
-use Rattle.parts.proofs.Down.{Tree, boundary-inside, boundary-row, children-says, children-has, child-inner, borders-child, borders-says, child-found}
+use Rattle.parts.proofs.Tree.{Above, here, up, holds-parent, one-child}
+use Rattle.parts.proofs.Down.{Tree, boundary-row, children-says, children-has, child-inner, borders-says, border-child}
 use Rattle.parts.proofs.Gates.{rows-inner}
 use Rattle.rows.specs.declared.Row.{Row}
 use Rattle.rows.specs.Row.{rowOf}
@@ -54,26 +54,14 @@ module _ (m : Map) (net : Net m) (tree : Tree m) (v : ℕ) (hv : v < m .vertices
 
       below : (b : ℕ) → List·Memᴰ b (borders m p) → rowOf m before (childOf m p b) b ≡ rowOf m after (childOf m p b) b
       below b h =
-          subst⁻¹ (λ (k : ℕ). rowOf m before k b ≡ rowOf m after k b) (child-found m net tree p k b hb (found .1) (boundary-inside m k b (found .2)))
-          (by (true-or-false (holds m k v)))
-        where
-          found : (k : ℕ) × List·Memᴰ k (children m p) × (boundary m k b ≡ true)
-          found = borders-child m p b h
-
-          k : ℕ
-          k = found .0
-
-          hb : b < m .vertices
-          hb = borders-says m net tree p b h .0
-
-          child : (k < partCount m) × (parentOf m k ≡ p) × (k ≢ 0)
-          child = children-says m p k (found .1)
-
-          by : (holds m k v ≡ true) ⊎ (holds m k v ≡ false) → rowOf m before k b ≡ rowOf m after k b
-          by (inl with-v) =
-              let same = one-child m (tree .falls) v (tree .leaf-part v hv) k c with-v inside (child .2) real (child .1) in
-              subst⁻¹ (λ (j : ℕ). rowOf m before j b ≡ rowOf m after j b) same (unseen b hb (subst (λ (j : ℕ). boundary m j b ≡ true) same (found .2)))
-          by (inr without) = switch-elsewhere m v switch k b without
+          let found = border-child m net tree p b h in
+          let child = children-says m p (childOf m p b) (found .0) in
+          ⊎-elim
+          (λ with-v.
+          let same = one-child m (tree .falls) v (tree .leaf-part v hv) (childOf m p b) c with-v inside (child .2) real (child .1) in
+          subst⁻¹ (λ (k : ℕ). rowOf m before k b ≡ rowOf m after k b) same (unseen b (borders-says m net tree p b h .0) (subst (λ (k : ℕ). boundary m k b ≡ true) same (found .1))))
+          (switch-elsewhere m v switch (childOf m p b) b)
+          (true-or-false (holds m (childOf m p b) v))
 
   -- so no boundary row of the parent changed
   unseen-parent : (c : ℕ) → c ≢ 0 → c < partCount m → holds m c v ≡ true → Unseen m before after c → Unseen m before after (parentOf m c)

@@ -2,12 +2,12 @@
 -- Assumes nothing.
 use mathlib.Core.Path.{_≡_, refl, sym, _∙_, ap, subst⁻¹}
 use mathlib.Core.Logic.{inl, inr, ⊎-elim, _≢_}
-use mathlib.Core.Bool.{Bool, true, false, _&&_, cond}
+use mathlib.Core.Bool.{Bool, true, false, cond}
 use mathlib.Core.List.{List, [], _∷_, map, foldr, List·Memᴰ}
-use Prim.Native.Nat.{ℕ, zero, suc, _+_, _*_, _≤_, _<_}
+use Prim.Native.Nat.{ℕ, zero, suc, _+_, _*_, _<_}
 use native.Mathlib.Omega.{arith}
 use lib.ListN.{length, getD}
-use lib.Dec.{eqb, leb}
+use lib.Dec.{eqb}
 use borrow.Author.Tests.{le-ltb, le-leb}
 use Rattle.words.specs.Limits.{FAR}
 use Rattle.words.specs.Lists.{word, countFrom, placeIn}
@@ -17,11 +17,11 @@ use Rattle.roads.specs.Map.{Map, partCount}
 use Rattle.roads.specs.Dist.{dist}
 use Rattle.roads.proofs.Trail.{Net}
 use Rattle.roads.proofs.Laws.{dist-triangle}
-use Rattle.parts.specs.Tree.{parentOf, holds, children, childOf, isLeaf, verticesOf}
-use Rattle.parts.specs.Border.{boundary, borders}
+use Rattle.parts.specs.Tree.{parentOf, childOf, isLeaf, verticesOf}
+use Rattle.parts.specs.Border.{borders}
 use Rattle.parts.specs.Size.{rowVertices, sizeOf}
 use Rattle.parts.proofs.Rows.{row-vertex}
-use Rattle.parts.proofs.Down.{Tree, boundary-inside, children-says, borders-child, border-row, child-found}
+use Rattle.parts.proofs.Down.{Tree, boundary-row, children-says, border-child}
 use Rattle.rows.specs.declared.Row.{Row}
 use Rattle.rows.specs.Row.{emptyRow, itself, nearer, rowOf}
 use Rattle.rows.specs.Refresh.{onward}
@@ -36,8 +36,8 @@ use Rattle.row_changes.proofs.Refresh.{row-met, row-left}
 use Rattle.row_refresh.specs.Model.{rowIn, sourceIn, showing, led, partAt, rowsHere, fits, changed, touches, refreshed, touched}
 use Rattle.row_memory.specs.Kept.{Kept}
 use Rattle.row_memory.specs.Laid.{Few, Laid, RowsShow}
-use Rattle.row_memory.proofs.Apart.{rows-last, rows-first, table-last, table-before, part-before, itself-before, early, beside}
-use Rattle.row_memory.proofs.Offered.{Plain, kept-self}
+use Rattle.row_memory.proofs.Apart.{rows-last, table-last, table-before, part-before, itself-before, early, beside}
+use Rattle.row_memory.proofs.Offered.{Plain}
 use Rattle.row_memory.proofs.OnePart.{Ready, Triangle, Closed, arrived-rows, arrived-none}
 use Rattle.row_memory.proofs.Departure.{Fits, departed-rows, departed-none}
 
@@ -104,26 +104,14 @@ module _ (m : Map) (net : Net m) (tree : Tree m) (p : ℕ) (hp : p < partCount m
     abbrev pub LaterShow : List ℕ → Type 0
     LaterShow mem = (c : ℕ) → c < partCount m → p < c → RowsShow m isActive mem c
 
-    child-row : (mem : List ℕ) → LaterShow mem → (b : ℕ) → b < m .vertices → List·Memᴰ b (borders m p) → rowIn mem (rowAt m (childOf m p b) b) ≡ rowOf m isActive (childOf m p b) b
+    child-row : (mem : List ℕ) → LaterShow mem → (b : ℕ) → List·Memᴰ b (borders m p) → rowIn mem (rowAt m (childOf m p b) b) ≡ rowOf m isActive (childOf m p b) b
     unfolding rowAt sizeOf
-    child-row mem later b hb border =
-        subst⁻¹ (λ (k : ℕ). rowIn mem (rowAt m k b) ≡ rowOf m isActive k b) (child-found m net tree p c b hb (found .1) inside)
-        (later c (child .0) (omega (arith, tree .falls c (omega (arith, child .2)) (child .0), child .1)) (placeIn b (rowVertices m c)) (place .0) ∙ ap (rowOf m isActive c) (place .1))
-      where
-        found : (c : ℕ) × List·Memᴰ c (children m p) × (boundary m c b ≡ true)
-        found = borders-child m p b border
-
-        c : ℕ
-        c = found .0
-
-        inside : holds m c b ≡ true
-        inside = boundary-inside m c b (found .2)
-
-        child : (c < partCount m) × (parentOf m c ≡ p) × (c ≢ 0)
-        child = children-says m p c (found .1)
-
-        place : (placeIn b (rowVertices m c) < length (rowVertices m c)) × (getD (rowVertices m c) (placeIn b (rowVertices m c)) 0 ≡ b)
-        place = place-in b (rowVertices m c) (border-row m net tree p b c border (found .1) inside)
+    child-row mem later b border =
+        let c : ℕ = childOf m p b in
+        let found = border-child m net tree p b border in
+        let child = children-says m p c (found .0) in
+        let place = place-in b (rowVertices m c) (boundary-row m net tree c b (found .1)) in
+        later c (child .0) (omega (arith, tree .falls c (omega (arith, child .2)) (child .0), child .1)) (placeIn b (rowVertices m c)) (place .0) ∙ ap (rowOf m isActive c) (place .1)
 
     source-shown : (mem : List ℕ) → Laid m isActive mem → LaterShow mem → (i : ℕ) → i < sizeOf m p → sourceIn mem (firstRowOf m p + 4 * i) ≡ source m isActive p (rowVertex m p i)
     unfolding source rowBelow rowVertices
@@ -135,7 +123,7 @@ module _ (m : Map) (net : Net m) (tree : Tree m) (p : ℕ) (hp : p < partCount m
         by : (leaf : Bool) → List·Memᴰ b (cond leaf (verticesOf m p) (borders m p))
             → rowIn mem (cond leaf (itselfAt m b) (rowAt m (childOf m p b) b)) ≡ cond leaf (itself isActive b) (rowOf m isActive (childOf m p b) b)
         by true h = laid .own b (real i hi)
-        by false h = child-row mem later b (real i hi) h
+        by false h = child-row mem later b h
 
     pub ready : (mem : List ℕ) → Laid m isActive mem → LaterShow mem
         → Ready (firstRowOf m p) (sizeOf m p) (tableOf m p) (λ i. source m isActive p (rowVertex m p i)) (λ i j. dist m (rowVertex m p i) (rowVertex m p j)) mem
