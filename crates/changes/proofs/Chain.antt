@@ -1,7 +1,7 @@
 -- What a function's calls, one after the other, come to, over plain values.
 -- Assumes nothing.
 use mathlib.Core.Path.{_≡_, sym, _∙_, ap}
-use mathlib.Core.Bool.{true, false}
+use mathlib.Core.Bool.{Bool}
 use mathlib.Core.List.{List}
 use Prim.Native.Nat.{ℕ, _+_}
 use lib.ListN.{set}
@@ -10,40 +10,22 @@ use Rattle.words.specs.Limits.{lastCount}
 use Rattle.words.specs.Lists.{word}
 use Rattle.answers.specs.declared.Reply.the-variants.{Accepted, CountUsedUp}
 use Rattle.counts.specs.declared.Counts.{Counts}
-use Rattle.places.specs.Place.{vertexAt}
 use Rattle.fleet.specs.State.{absent}
 use Rattle.van_lists.specs.declared.VanWords.{VanWords}
 use Rattle.van_lists.specs.Slot.{wordsOf, stamped}
-use Rattle.van_lists.specs.Walk.{written, takenOut, putIn}
+use Rattle.van_lists.specs.Walk.{written}
 use Rattle.road_lookup.specs.Lookup.{endIn}
 use Rattle.row_refresh.specs.Model.{switched}
-use Rattle.changes.specs.Made.{departed, arrived, moved, made, counted, settled}
+use Rattle.changes.specs.Made.{switchedAlone, departed, arrived, moved, made, counted, settled}
 
-module _ (mem : List ℕ) (counts : Counts) (van vertex : ℕ) (words : VanWords) (at first : ℕ) (place : at ≡ vertexAt counts vertex) where
-  -- the first van of the list, where it was read
-  first-is : (list : List ℕ) → first ≡ word list (at + 4) → first ≡ word list (vertexAt counts vertex + 4)
-  first-is list e = e ∙ ap (λ (k : ℕ). word list (k + 4)) place
+module _ (mem : List ℕ) (vertex others : ℕ) (is : Bool) where
+  pub switches-alone : (end : List ℕ) → others ≡ 0 → end ≡ switched mem vertex is → end ≡ switchedAlone mem vertex others is
+  unfolding switchedAlone
+  switches-alone end none e = rw (eq-eqb others 0 none) e
 
-  module _ (out : List ℕ) (taken : out ≡ takenOut mem counts van vertex words) (read : first ≡ word out (at + 4)) where
-    first-out : first ≡ word (takenOut mem counts van vertex words) (vertexAt counts vertex + 4)
-    first-out = first-is out read ∙ ap (λ (l : List ℕ). word l (vertexAt counts vertex + 4)) taken
-
-    pub departs-last : (end : List ℕ) → first ≡ 0 → end ≡ switched out vertex false → end ≡ departed mem counts van vertex words
-    unfolding departed
-    departs-last end none e = rw (eq-eqb (word (takenOut mem counts van vertex words) (vertexAt counts vertex + 4)) 0 (sym first-out ∙ none)) (e ∙ ap (λ (l : List ℕ). switched l vertex false) taken)
-
-    pub departs-one : (first ≡ 0 → ⊥) → out ≡ departed mem counts van vertex words
-    unfolding departed
-    departs-one some = rw (ne-eqb (word (takenOut mem counts van vertex words) (vertexAt counts vertex + 4)) 0 (λ z. some (first-out ∙ z))) taken
-
-  module _ (come : List ℕ) (put : come ≡ putIn mem counts van vertex words) (read : first ≡ word mem (at + 4)) where
-    pub arrives-first : (end : List ℕ) → first ≡ 0 → end ≡ switched come vertex true → end ≡ arrived mem counts van vertex words
-    unfolding arrived
-    arrives-first end none e = rw (eq-eqb (word mem (vertexAt counts vertex + 4)) 0 (sym (first-is mem read) ∙ none)) (e ∙ ap (λ (l : List ℕ). switched l vertex true) put)
-
-    pub arrives-too : (first ≡ 0 → ⊥) → come ≡ arrived mem counts van vertex words
-    unfolding arrived
-    arrives-too some = rw (ne-eqb (word mem (vertexAt counts vertex + 4)) 0 (λ z. some (first-is mem read ∙ z))) put
+  pub switches-not : (others ≡ 0 → ⊥) → mem ≡ switchedAlone mem vertex others is
+  unfolding switchedAlone
+  switches-not some = rw (ne-eqb others 0 some)
 
 module _ (mem : List ℕ) (counts : Counts) (van : ℕ) (old new : VanWords) (from to : ℕ) (f : from ≡ endIn mem counts (old .road)) (t : to ≡ endIn mem counts (new .road)) (end : List ℕ) where
   pub makes-kept : old .state ≡ 1 → new .state ≡ 1 → from ≡ to → end ≡ written mem counts van new → end ≡ made mem counts van old new

@@ -1,7 +1,7 @@
 -- One van stands anew in the words of a map and a fleet: they are the words of the fleet in which it stands so, rows included.
 -- Assumes nothing.
 use mathlib.Core.Path.{_≡_, refl, sym, ap, _∙_}
-use mathlib.Core.Bool.{true, false, not}
+use mathlib.Core.Bool.{Bool, true, false, not}
 use mathlib.Core.List.{List}
 use Prim.Native.Nat.{ℕ, _+_, _<_}
 use native.Mathlib.Omega.{arith}
@@ -26,7 +26,7 @@ use Rattle.van_lists.proofs.Relink.{slot-new, slots-kept, link-elsewhere}
 use Rattle.van_lists.proofs.OneVan.{one-head, parked-kept, kept-only, parked-out, out-only, parked-in, in-only}
 use Rattle.row_memory.specs.Old.{RowsOld}
 use Rattle.row_memory.proofs.Whole.{image-unswitched, image-switched}
-use Rattle.changes.specs.Made.{departed, arrived}
+use Rattle.changes.specs.Made.{switchedAlone, departed, arrived}
 use Rattle.changes.proofs.Reading.{countsOf, image-parked}
 use Rattle.changes.proofs.Between.{rows-old}
 
@@ -64,25 +64,28 @@ module _ (m : Map) (sound : Sound m) (s : State) (slots : length (s .vans) ≡ v
       (λ v vertex. active-same v (same v))
 
   module _ (p : ℕ) (vertex : p < m .vertices) where
-    after-out : List ℕ
-    after-out = takenOut (image m s) (countsOf m) n p (wordsOf new)
+    -- the van put in or taken out; p is switched where no other van is in its list
+    image-alone : (half : List ℕ) → RowsOld m s (withSlot s n new) half → (others : ℕ) (is : Bool) → (others ≡ 0 → active m (withSlot s n new) p ≡ is)
+        → ((others ≡ 0 → ⊥) → active m s p ≡ active m (withSlot s n new) p) → ((u : ℕ) → (u ≡ p → ⊥) → active m s u ≡ active m (withSlot s n new) u)
+        → switchedAlone half p others is ≡ image m (withSlot s n new)
+    unfolding switchedAlone
+    image-alone half old others is alone more elsewhere =
+        elim (ℕ-discrete others 0) [
+          | yes none ↦
+              rw (eq-eqb others 0 none)
+              (image-switched m s (withSlot s n new) slots anew half old p vertex is (record { here = alone none; elsewhere = elsewhere }) sound)
+          | no some ↦
+              rw (ne-eqb others 0 some)
+              (image-unswitched m s (withSlot s n new) slots anew half old
+              (λ v is-vertex. elim (ℕ-discrete v p) [ yes here ↦ rw here (more some) | no away ↦ elsewhere v away ]))
+        ]
 
     pub image-departed : headsAt m s p n ≡ true → ((v : ℕ) → headsFor m v new ≡ false) → departed (image m s) (countsOf m) n p (wordsOf new) ≡ image m (withSlot s n new)
-    unfolding departed after-out
+    unfolding departed
     image-departed was nowhere =
-        elim (ℕ-discrete (word after-out (vertexAt (countsOf m) p + 4)) 0) [
-          | yes none ↦
-              rw (eq-eqb (word after-out (vertexAt (countsOf m) p + 4)) 0 none)
-              (image-switched m s (withSlot s n new) slots anew after-out half p vertex false (record { here = by-none m (withSlot s n new) p _ first none; elsewhere = λ u away. elsewhere u away }) sound)
-          | no some ↦
-              rw (ne-eqb (word after-out (vertexAt (countsOf m) p + 4)) 0 some)
-              (image-unswitched m s (withSlot s n new) slots anew after-out half
-              (λ v is-vertex.
-              elim (ℕ-discrete v p) [
-                | yes here ↦ rw here (active-by m s slots p n is-van was ∙ sym (by-first m (withSlot s n new) p _ first some))
-                | no away ↦ elsewhere v away
-              ]))
-        ]
+        image-alone _ half _ false (by-none m (withSlot s n new) p _ first)
+        (λ some. active-by m s slots p n is-van was ∙ sym (by-first m (withSlot s n new) p _ first some))
+        (λ u away. active-same u (nowhere u ∙ sym (one-head m u p (slotOf s n) was away)))
       where
         out : Parked m (countsOf m) (withSlot s n new) (takenOut (image m s) (countsOf m) n p (wordsOf new))
         out = parked-out m (countsOf m) s slots (image m s) parked n is-van new p vertex was nowhere
@@ -93,19 +96,11 @@ module _ (m : Map) (sound : Sound m) (s : State) (slots : length (s .vans) ≡ v
         first : word (takenOut (image m s) (countsOf m) n p (wordsOf new)) (vertexAt (countsOf m) p + 4) ≡ linkFrom m (withSlot s n new) p 0
         first = out .first p vertex
 
-        elsewhere : (u : ℕ) → (u ≡ p → ⊥) → active m s u ≡ active m (withSlot s n new) u
-        elsewhere u away = active-same u (nowhere u ∙ sym (one-head m u p (slotOf s n) was away))
-
     pub image-arrived : ((v : ℕ) → headsAt m s v n ≡ false) → headsFor m p new ≡ true → arrived (image m s) (countsOf m) n p (wordsOf new) ≡ image m (withSlot s n new)
     unfolding arrived
     image-arrived was there =
-        elim (ℕ-discrete (word (image m s) (vertexAt (countsOf m) p + 4)) 0) [
-          | yes none ↦ rw (eq-eqb (word (image m s) (vertexAt (countsOf m) p + 4)) 0 none) (image-switched m s (withSlot s n new) slots anew _ half p vertex true (record { here = now; elsewhere = λ u away. elsewhere u away }) sound)
-          | no some ↦
-              rw (ne-eqb (word (image m s) (vertexAt (countsOf m) p + 4)) 0 some)
-              (image-unswitched m s (withSlot s n new) slots anew _ half
-              (λ v is-vertex. elim (ℕ-discrete v p) [ yes here ↦ rw here (by-first m s p _ (parked .first p vertex) some ∙ sym now) | no away ↦ elsewhere v away ]))
-        ]
+        image-alone _ half _ true (λ none. now) (λ some. by-first m s p _ (parked .first p vertex) some ∙ sym now)
+        (λ u away. active-same u (one-head m u p new there away ∙ sym (was u)))
       where
         half : RowsOld m s (withSlot s n new) (putIn (image m s) (countsOf m) n p (wordsOf new))
         half =
@@ -114,6 +109,3 @@ module _ (m : Map) (sound : Sound m) (s : State) (slots : length (s .vans) ≡ v
 
         now : active m (withSlot s n new) p ≡ true
         now = active-by m (withSlot s n new) anew p n is-van (ap (headsFor m p) (slot-new m s slots n is-van new) ∙ there)
-
-        elsewhere : (u : ℕ) → (u ≡ p → ⊥) → active m s u ≡ active m (withSlot s n new) u
-        elsewhere u away = active-same u (one-head m u p new there away ∙ sym (was u))

@@ -17,21 +17,21 @@ use Rattle.van_lists.specs.Walk.{written, takenOut, putIn}
 use Rattle.road_lookup.specs.Lookup.{endIn}
 use Rattle.row_refresh.specs.Model.{switched}
 
--- the vertex's list has no first van
-abbrev pub nobody : List ℕ → Counts → ℕ → Bool
-nobody mem counts vertex = eqb (word mem (vertexAt counts vertex + 4)) 0
+-- the first van of the vertex's list
+abbrev pub firstIn : List ℕ → Counts → ℕ → ℕ
+firstIn mem counts vertex = word mem (vertexAt counts vertex + 4)
 
--- a van out of the list of a vertex, and the rows refreshed where the list is then empty
+-- the vertex switched where `others`, the first of the other vans in its list, is none
+unfoldable pub switchedAlone : List ℕ → ℕ → ℕ → Bool → List ℕ
+switchedAlone mem vertex others is = cond (eqb others 0) (switched mem vertex is) mem
+
+-- a van out of the list of a vertex, and the vertex inactive where the list is then empty
 unfoldable pub departed : List ℕ → Counts → ℕ → ℕ → VanWords → List ℕ
-departed mem counts van vertex words =
-    let after = takenOut mem counts van vertex words in
-    cond (nobody after counts vertex) (switched after vertex false) after
+departed mem counts van vertex words = let after = takenOut mem counts van vertex words in switchedAlone after vertex (firstIn after counts vertex) false
 
--- a van into the list of a vertex, and the rows refreshed where the list was empty
+-- a van into the list of a vertex, and the vertex active where the list was empty
 unfoldable pub arrived : List ℕ → Counts → ℕ → ℕ → VanWords → List ℕ
-arrived mem counts van vertex words =
-    let after = putIn mem counts van vertex words in
-    cond (nobody mem counts vertex) (switched after vertex true) after
+arrived mem counts van vertex words = switchedAlone (putIn mem counts van vertex words) vertex (firstIn mem counts vertex) true
 
 -- a van that stood as `old` says and stands as `new` says, by the ends of its roads
 unfoldable pub moved : List ℕ → Counts → ℕ → (from to : ℕ) → VanWords → List ℕ

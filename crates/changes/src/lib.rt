@@ -28,30 +28,35 @@ ghost use Rattle.answers.specs.Answered.{answered};
 ghost use Rattle.fleet.specs.Change.{vanInRange, deskInRange, inRange, vanOf};
 ghost use Rattle.refusals.specs.Verdict.{deskOf};
 ghost use Rattle.calls.specs.Outcome.{Changed};
-ghost use Rattle.changes.specs.Made.{departed, arrived, made, counted, settled};
+ghost use Rattle.changes.specs.Made.{switchedAlone, departed, arrived, made, counted, settled};
 ghost use Rattle.changes.specs.Done.{Done};
 
-// A free van for `vertex` stands as `words` say, and heads nowhere. Where it was the only one, the vertex becomes inactive.
+// Where `others`, the first of the other vans in the list of the vertex, is none, the vertex becomes active (`arrives`) or inactive.
+fn switch_alone(mem: &mut [u32], vertex: u32, others: u32, arrives: bool)
+    ensures { λ _. ⌜ now (mem .exit) ≡ switchedAlone (now (mem .entry)) vertex others arrives ⌝ }
+{
+    if others == 0 {
+        switch(mem, vertex, arrives);
+    }
+}
+
+// A free van for `vertex` stands as `words` say, and heads nowhere.
 fn depart(mem: &mut [u32], counts: Counts, van: u32, vertex: u32, words: VanWords)
     ensures { λ _. ⌜ now (mem .exit) ≡ departed (now (mem .entry)) counts van vertex words ⌝ }
 {
     take_out(mem, counts, van, vertex, words);
     let others = word(mem, vertex_at(counts, vertex) + 4);
-    if others == 0 {
-        switch(mem, vertex, false);
-    }
+    switch_alone(mem, vertex, others, false);
 }
 
-// A van that heads nowhere stands as `words` say, a free van for `vertex`. Where it is the only one, the vertex becomes active.
+// A van that heads nowhere stands as `words` say, a free van for `vertex`.
 fn arrive(mem: &mut [u32], counts: Counts, van: u32, vertex: u32, words: VanWords)
     requires { ⌜ van < 1024 ⌝ }
     ensures { λ _. ⌜ now (mem .exit) ≡ arrived (now (mem .entry)) counts van vertex words ⌝ }
 {
-    let first = word(mem, vertex_at(counts, vertex) + 4);
+    let others = word(mem, vertex_at(counts, vertex) + 4);
     put_in(mem, counts, van, vertex, words);
-    if first == 0 {
-        switch(mem, vertex, true);
-    }
+    switch_alone(mem, vertex, others, true);
 }
 
 // The van, which stood as `old` says, stands as `new` says.
