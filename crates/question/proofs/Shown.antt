@@ -1,6 +1,6 @@
 -- What the words of a map and a fleet say of parts, rows, vertices and vans.
 -- Assumes nothing.
-use mathlib.Core.Path.{_≡_, refl, sym, ap, subst, _∙_}
+use mathlib.Core.Path.{_≡_, refl, ap, subst, _∙_}
 use mathlib.Core.Logic.{_⊎_, inl, inr, ⊎-elim, _≢_}
 use mathlib.Core.Bool.{Bool, true, false, cond}
 use mathlib.Core.List.{List, List·Memᴰ}
@@ -22,7 +22,7 @@ use Rattle.parts.specs.Tree.{parentOf, leafOf, holds, children, childOf, isLeaf
 use Rattle.parts.specs.Border.{borders}
 use Rattle.parts.specs.Size.{rowVertices, sizeOf}
 use Rattle.parts.proofs.Rows.{row-vertex}
-use Rattle.parts.proofs.Down.{Tree, child-held, borders-child, boundary-inside, children-says, border-row, child-found}
+use Rattle.parts.proofs.Down.{Tree, child-held, boundary-inside, children-says, border-row, border-child}
 use Rattle.parts.proofs.Gates.{rows-inner, row-held}
 use Rattle.maps.specs.Sound.{Sound}
 use Rattle.maps.proofs.Distances.{sound-net, sound-tree, sound-dist, few-rows}
@@ -151,10 +151,7 @@ module _ {m : Map} {s : State} {mem : List ℕ} (g : Genuine m s mem) where
       -- the child that holds a border
       pub child-of-border : (b : ℕ) → List·Memᴰ b (borders m p) → List·Memᴰ (childOf m p b) (children m p) × (holds m (childOf m p b) b ≡ true)
       child-of-border b h =
-          let found = borders-child m p b h in
-          let inside = boundary-inside m (found .0) b (found .2) in
-          let same = child-found m (sound-net m (g .sound)) (sound-tree m (g .sound)) p (found .0) b (row-vertex m p b (subst (List·Memᴰ b) (sym (rows-inner m p inner)) h)) (found .1) inside in
-          (subst (λ (k : ℕ). List·Memᴰ k (children m p)) (sym same) (found .1), subst (λ (k : ℕ). holds m k b ≡ true) (sym same) inside)
+          let found = border-child m (sound-net m (g .sound)) (sound-tree m (g .sound)) p b h in (found .0, boundary-inside m (childOf m p b) b (found .1))
 
       pub below-read : (i : ℕ) → i < sizeOf m p → belowAt mem (partWord mem p 2) i ≡ rowOf m (active m s) (childOf m p (rowVertex m p i)) (rowVertex m p i) .distance
       unfolding rowBelow
