@@ -13,8 +13,9 @@ use lib.ListN.{getD}
 use Rattle.words.specs.Limits.{FAR}
 use Rattle.words.specs.Lists.{placeIn}
 use Rattle.roads.specs.Map.{Map, partCount}
-use Rattle.roads.specs.Walk.{Walk}
+use Rattle.roads.specs.Walk.{Walk, rest}
 use Rattle.roads.specs.Dist.{dist}
+use Rattle.roads.proofs.Inner.{walk-inner}
 use Rattle.roads.proofs.Exact.{dist-exact}
 use Rattle.parts.specs.Tree.{parentOf, holds, children}
 use Rattle.parts.specs.Border.{boundary}
@@ -25,8 +26,7 @@ use Rattle.maps.proofs.Distances.{sound-net, sound-tree}
 use Rattle.image.specs.Places.{tableOf}
 use Rattle.image.specs.Image.{partBelow}
 use Rattle.image.specs.Records.{rowVertex}
-use Rattle.inner_walks.specs.Inner.{Inner, rest}
-use Rattle.inner_walks.proofs.Inner.{walk-inner}
+use Rattle.inner_walks.specs.Inner.{Inner}
 use Rattle.inner_walks.proofs.Down.{entered-least}
 use Rattle.table_rows.specs.Flat.{Tried}
 use Rattle.assembly.specs.Laid.{Laid, Filled, entry}
@@ -225,7 +225,7 @@ descent-begins m start mem L R = record {
   short = λ q hq when i j w hi hj walk. ⊎-elim
       (λ root. R .inside .inner q i j w (omega arith) hq hi hj
       (subst⁻¹ (λ (x : ℕ). Inner m x (rowVertex m q i) (rowVertex m q j) w) root
-      (walk-inner m (sound-net m (L .sound)) 0 (root-holds m (sound-tree m (L .sound))) walk)))
+      (walk-inner (sound-net m (L .sound)) (root-holds m (sound-tree m (L .sound))) walk)))
       (λ below. absurd (omega arith))
       when;
 }

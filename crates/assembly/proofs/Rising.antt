@@ -15,6 +15,7 @@ use Rattle.words.proofs.Lists.{place-in}
 use Rattle.words.proofs.Places.{place-of-entry, numbered}
 use Rattle.roads.specs.Map.{Road, Map, partCount, noRoad}
 use Rattle.roads.specs.Dist.{dist}
+use Rattle.roads.proofs.Inner.{inner-start, inner-end}
 use Rattle.roads.proofs.Laws.{dist-most, dist-self}
 use Rattle.parts.specs.Tree.{holds, children}
 use Rattle.parts.specs.Size.{rowVertices, sizeOf}
@@ -24,7 +25,6 @@ use Rattle.image.specs.Places.{tableOf}
 use Rattle.image.specs.Records.{rowVertex}
 use Rattle.image.proofs.Records.{rows-end}
 use Rattle.inner_walks.specs.Inner.{Inner}
-use Rattle.inner_walks.proofs.Inner.{inner-start, inner-end}
 use Rattle.inner_walks.proofs.Up.{closed-least}
 use Rattle.table_rows.specs.Flat.{blank, Becomes, Blanked, Tried}
 use Rattle.assembly.specs.Laid.{Laid, entry, Outside}
