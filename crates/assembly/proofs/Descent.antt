@@ -37,7 +37,7 @@ use Rattle.assembly.proofs.Lowering.{lower-none, lower-then, inside-low
 use Rattle.assembly.proofs.Trying.{tried-lower, tried-tight, tried-keeps}
 use Rattle.assembly.proofs.Below.{child-later, row-one, part-below, place-below}
 use Rattle.assembly.proofs.Pairs.{vertex-small, row-held-in, row-child, row-place}
-use Rattle.assembly.proofs.Rising.{rowOfVertex, vertex-row, row-again}
+use Rattle.assembly.proofs.Rising.{rowOfVertex, vertex-row, byVertices, by-rows}
 
 -- ---- one row tried in the child that holds its vertex
 
@@ -119,9 +119,6 @@ short-lower f q hq h i j w hi hj walk = omega (arith, f .less q i j (omega arith
 
 module _ (m : Map) (mem one two : List ℕ) (L : Laid m mem) (p : ℕ) (hp : p < partCount m) (S : Short m p mem) (I : Inside m 0 two)
     (A : Agreed m 0 p (sizeOf m p) mem one) (E : Entered m p (sizeOf m p) one two) (c : ℕ) (hc : List·Memᴰ c (children m p)) where
-  T : ℕ → ℕ → ℕ
-  T a b = entry m two c (rowOfVertex m c a) (rowOfVertex m c b)
-
   later : (c < partCount m) × (p < c)
   later = child-later m (L .sound) p c hc
 
@@ -136,38 +133,34 @@ module _ (m : Map) (mem one two : List ℕ) (L : Laid m mem) (p : ℕ) (hp : p <
   gate-place : (g : ℕ) → boundary m c g ≡ true → placeBelow m p (rowOfVertex m p g) c ≡ rowOfVertex m c g
   gate-place g b = ap (λ (v : ℕ). placeIn v (rowVertices m c)) (gate-row g b .1)
 
-  between : (g h w : ℕ) → boundary m c g ≡ true → boundary m c h ≡ true → Walk m g h w → T g h ≤ w
-  unfolding T
+  between : (g h w : ℕ) → boundary m c g ≡ true → boundary m c h ≡ true → Walk m g h w → byVertices m c two g h ≤ w
   between g h w bg bh walk =
       let i = rowOfVertex m p g in
       let j = rowOfVertex m p h in
       let k = place-below m (L .sound) p i c (gate-row g bg .0) (gate-in g bg) in
       let l = place-below m (L .sound) p j c (gate-row h bh .0) (gate-in h bh) in
-      let there : Walk m (rowVertex m p i) (rowVertex m p j) w = subst⁻¹ (λ (v : ℕ). Walk m v (rowVertex m p j) w) (gate-row g bg .1) (subst⁻¹ (λ (v : ℕ). Walk m g v w) (gate-row h bh .1) walk) in
+      let there : Walk m (rowVertex m p i) (rowVertex m p j) w = rw (gate-row g bg .1, gate-row h bh .1) walk in
       rw (← gate-place g bg, ← gate-place h bh)
       (omega (
         arith,
         E .lower .less c (placeBelow m p i c) (placeBelow m p j c) (omega arith) (later .0) (k .0) (l .0),
-        A .down c i j (gate-row g bg .0) (gate-row h bh .0) (gate-in g bg) (gate-in h bh),
+        A .down c i j (gate-row g bg .0) (gate-row g bg .0) (gate-row h bh .0) (gate-in g bg) (gate-in h bh),
         S i j w (gate-row g bg .0) (gate-row h bh .0) there,
       ))
 
   pub child-short : Short m c two
-  unfolding T
   child-short i j w hi hj walk =
-      subst (λ (k : ℕ). entry m two c k j ≤ w) (row-again m c i hi)
-      (subst (λ (l : ℕ). entry m two c (rowOfVertex m c (rowVertex m c i)) l ≤ w) (row-again m c j hj)
-      (entered-least m (sound-net m (L .sound)) (sound-tree m (L .sound)) c T (record {
+      by-rows m c two i j hi hj
+      (entered-least m (sound-net m (L .sound)) (sound-tree m (L .sound)) c (byVertices m c two) (record {
         inner = λ a b w ha hb walk.
             let ra = vertex-row m c a ha in
             let rb = vertex-row m c b hb in
-            I .inner c (rowOfVertex m c a) (rowOfVertex m c b) w (omega arith) (later .0) (ra .0) (rb .0)
-            (subst⁻¹ (λ (v : ℕ). Inner m c v (rowVertex m c (rowOfVertex m c b)) w) (ra .1) (subst⁻¹ (λ (v : ℕ). Inner m c a v w) (rb .1) walk));
+            I .inner c (rowOfVertex m c a) (rowOfVertex m c b) w (omega arith) (later .0) (ra .0) (rb .0) (rw (ra .1, rb .1) walk);
         between = between;
         tried = λ a g b ha bg hb.
             subst (λ (k : ℕ). entry m two c (rowOfVertex m c a) (rowOfVertex m c b) ≤ entry m two c (rowOfVertex m c a) k + entry m two c k (rowOfVertex m c b)) (gate-place g bg)
             (E .tight (rowOfVertex m p g) c (gate-row g bg .0) (gate-in g bg) (rowOfVertex m c a) (rowOfVertex m c b) (vertex-row m c a ha .0) (vertex-row m c b hb .0));
-      }) (rowVertex m c i) (rowVertex m c j) w (row-is m c i hi) (row-is m c j hj) walk))
+      }) (rowVertex m c i) (rowVertex m c j) w (row-is m c i hi) (row-is m c j hj) walk)
 
 pub descended-step : (mem one two : List ℕ) (p : ℕ) →
     ((m : Map) (low : ℕ) → Laid m mem → low ≤ p → p < partCount m → Agreed m low p (sizeOf m p) mem one) →

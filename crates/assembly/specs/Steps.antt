@@ -29,23 +29,23 @@ pub record RowIn (m : Map) (p i c : ℕ) : Type 0 where
 
 -- ---- the words of a part and of its children, for the same two vertices
 
--- of rows i and j of part p: the words of part and child are no more than what the other was
-pub record AgreedPair (m : Map) (low p i j : ℕ) (before after : List ℕ) : Type 0 where
+-- for the rows i and j of part p with `Of i j`: the words of part and child are no more than what the other was
+pub record AgreedFor (m : Map) (low p : ℕ) (Of : ℕ → ℕ → Type 0) (before after : List ℕ) : Type 0 where
   pub lower : Lower m low before after
-  pub up : (c : ℕ) → RowIn m p i c → RowIn m p j c → entry m after p i j ≤ entry m before c (placeBelow m p i c) (placeBelow m p j c)
-  pub down : (c : ℕ) → RowIn m p i c → RowIn m p j c → entry m after c (placeBelow m p i c) (placeBelow m p j c) ≤ entry m before p i j
+  pub up : (c i j : ℕ) → Of i j → i < sizeOf m p → j < sizeOf m p → RowIn m p i c → RowIn m p j c → entry m after p i j ≤ entry m before c (placeBelow m p i c) (placeBelow m p j c)
+  pub down : (c i j : ℕ) → Of i j → i < sizeOf m p → j < sizeOf m p → RowIn m p i c → RowIn m p j c → entry m after c (placeBelow m p i c) (placeBelow m p j c) ≤ entry m before p i j
 
--- of row i, with the first n rows
-pub record AgreedRow (m : Map) (low p i n : ℕ) (before after : List ℕ) : Type 0 where
-  pub lower : Lower m low before after
-  pub up : (c j : ℕ) → j < n → RowIn m p i c → RowIn m p j c → entry m after p i j ≤ entry m before c (placeBelow m p i c) (placeBelow m p j c)
-  pub down : (c j : ℕ) → j < n → RowIn m p i c → RowIn m p j c → entry m after c (placeBelow m p i c) (placeBelow m p j c) ≤ entry m before p i j
+-- for the rows i and j
+abbrev pub AgreedPair : Map → (low p i j : ℕ) → List ℕ → List ℕ → Type 0
+AgreedPair m low p i j = AgreedFor m low p (λ a b. (a ≡ i) × (b ≡ j))
 
--- of the first n rows, with all
-pub record Agreed (m : Map) (low p n : ℕ) (before after : List ℕ) : Type 0 where
-  pub lower : Lower m low before after
-  pub up : (c i j : ℕ) → i < n → j < sizeOf m p → RowIn m p i c → RowIn m p j c → entry m after p i j ≤ entry m before c (placeBelow m p i c) (placeBelow m p j c)
-  pub down : (c i j : ℕ) → i < n → j < sizeOf m p → RowIn m p i c → RowIn m p j c → entry m after c (placeBelow m p i c) (placeBelow m p j c) ≤ entry m before p i j
+-- for row i, with the first n rows
+abbrev pub AgreedRow : Map → (low p i n : ℕ) → List ℕ → List ℕ → Type 0
+AgreedRow m low p i n = AgreedFor m low p (λ a b. (a ≡ i) × (b < n))
+
+-- for the first n rows, with all
+abbrev pub Agreed : Map → (low p n : ℕ) → List ℕ → List ℕ → Type 0
+Agreed m low p n = AgreedFor m low p (λ a b. a < n)
 
 -- where the words of row i of p and of its row in c stand
 pub record Lines (m : Map) (p i c size first line firstBelow lineBelow : ℕ) : Type 0 where
@@ -71,24 +71,21 @@ pub record Marked (marks : List ℕ) (i j d e : ℕ) (marked : List ℕ) : Type 
   pub kept : (k : ℕ) → word marks k ≡ 1 → word marked k ≡ 1
   pub both : i < length marks → j < length marks → (d ≡ e → d ≡ 0) → (word marked i ≡ 1) × (word marked j ≡ 1)
 
--- The roads with a number of at least `from` and below `to`, from the vertex of row i to another row vertex, have lowered their words; and the
--- ends of those that no child holds are marked as halts.
-pub record RoadsOf (m : Map) (p i from to : ℕ) (before after marks marked : List ℕ) : Type 0 where
+-- The roads r with `Of r i`, from the vertex of row i to another row vertex, have lowered their words; and the ends of those that no child holds
+-- are marked as halts.
+pub record RoadsFor (m : Map) (p : ℕ) (Of : ℕ → ℕ → Type 0) (before after marks marked : List ℕ) : Type 0 where
   pub lower : Lower m p before after
-  pub road : (r j : ℕ) → from ≤ r → r < to → r < roadCount m → j < sizeOf m p → roadAt m r .from ≡ rowVertex m p i → roadAt m r .to ≡ rowVertex m p j →
-      entry m after p i j ≤ roadAt m r .weight
   pub kept : (k : ℕ) → word marks k ≡ 1 → word marked k ≡ 1
-  pub halts : (r j : ℕ) → from ≤ r → r < to → r < roadCount m → j < sizeOf m p → roadAt m r .from ≡ rowVertex m p i → roadAt m r .to ≡ rowVertex m p j →
-      Apart m p i j → (word marked i ≡ 1) × (word marked j ≡ 1)
+  pub road : (r i j : ℕ) → Of r i → r < roadCount m → i < sizeOf m p → j < sizeOf m p → roadAt m r .from ≡ rowVertex m p i → roadAt m r .to ≡ rowVertex m p j →
+      (entry m after p i j ≤ roadAt m r .weight) × (Apart m p i j → (word marked i ≡ 1) × (word marked j ≡ 1))
+
+-- the roads with a number of at least `from` and below `to`, from the vertex of row i
+abbrev pub RoadsOf : Map → (p i from to : ℕ) → (before after marks marked : List ℕ) → Type 0
+RoadsOf m p i from to = RoadsFor m p (λ r k. (k ≡ i) × (from ≤ r) × (r < to))
 
 -- all roads from the vertices of the first n rows
-pub record Roads (m : Map) (p n : ℕ) (before after marks marked : List ℕ) : Type 0 where
-  pub lower : Lower m p before after
-  pub road : (r i j : ℕ) → i < n → r < roadCount m → j < sizeOf m p → roadAt m r .from ≡ rowVertex m p i → roadAt m r .to ≡ rowVertex m p j →
-      entry m after p i j ≤ roadAt m r .weight
-  pub kept : (k : ℕ) → word marks k ≡ 1 → word marked k ≡ 1
-  pub halts : (r i j : ℕ) → i < n → r < roadCount m → j < sizeOf m p → roadAt m r .from ≡ rowVertex m p i → roadAt m r .to ≡ rowVertex m p j →
-      Apart m p i j → (word marked i ≡ 1) × (word marked j ≡ 1)
+abbrev pub Roads : Map → (p n : ℕ) → (before after marks marked : List ℕ) → Type 0
+Roads m p n = RoadsFor m p (λ r i. i < n)
 
 -- ---- nodes tried
 
