@@ -20,11 +20,10 @@ use Rattle.roads.proofs.Exact.{dist-exact}
 use Rattle.parts.specs.Tree.{parentOf, holds, children}
 use Rattle.parts.specs.Border.{boundary}
 use Rattle.parts.specs.Size.{rowVertices, sizeOf}
-use Rattle.parts.proofs.Down.{boundary-inside, children-says, children-has, root-holds}
+use Rattle.parts.proofs.Down.{boundary-inside, children-has, root-holds}
 use Rattle.parts.proofs.Gates.{boundary-above}
 use Rattle.maps.proofs.Distances.{sound-net, sound-tree}
 use Rattle.image.specs.Places.{tableOf}
-use Rattle.image.specs.Image.{partBelow}
 use Rattle.image.specs.Records.{rowVertex}
 use Rattle.inner_walks.specs.Inner.{Inner}
 use Rattle.inner_walks.proofs.Down.{entered-least}
@@ -35,8 +34,8 @@ use Rattle.assembly.specs.Steps.{RowIn, placeBelow, Agreed, Tight, Enter
 use Rattle.assembly.proofs.Places.{row-is, row-real, laid-kept}
 use Rattle.assembly.proofs.Lowering.{lower-none, lower-then, inside-lower}
 use Rattle.assembly.proofs.Trying.{tried-lower, tried-tight, tried-keeps}
-use Rattle.assembly.proofs.Below.{child-later, row-one, part-below, place-below}
-use Rattle.assembly.proofs.Pairs.{vertex-small, row-held-in, row-child, row-place}
+use Rattle.assembly.proofs.Below.{child-later, row-one, place-below}
+use Rattle.assembly.proofs.Shown.{shown-nowhere, shown-in, shown-later, shown-place}
 use Rattle.assembly.proofs.Rising.{rowOfVertex, vertex-row, byVertices, by-rows}
 
 -- ---- one row tried in the child that holds its vertex
@@ -47,11 +46,7 @@ pub row-nowhere : (mem : List ℕ) {p i c first mark : ℕ} → first ≡ getD m
     (m : Map) → Laid m mem → p < partCount m → i < sizeOf m p → Inside m 0 mem → EnteredRow m p i mem mem
 row-nowhere mem {p} {i} first-is shown reads none m L hp hi I = record {
   lower = lower-none m 0 mem;
-  tight = λ d di. absurd (
-      children-says m p d (di .is-child) .2 (sym (part-below m (L .sound) p i d hi di)
-      ∙ sym (reads (rowVertex m p i) (partBelow m p (rowVertex m p i)) (vertex-small m mem L p i hi)
-      (shown ∙ ap (λ (f : ℕ). getD mem (f + 4 * i + 2) 0) (first-is ∙ L .part p hp .first-row) ∙ L .row p i hp hi .mark)) ∙ none)
-      );
+  tight = λ d di. absurd (shown-nowhere m mem L p i hp hi first-is shown reads none d di);
   keeps = λ q k _ _ tight. tight;
 }
 
@@ -60,9 +55,9 @@ pub row-entered : (mem : List ℕ) {p i c first mark row firstBelow k sizeBelow 
     ((n : ℕ) → row ≡ firstBelow + 4 * n → k ≡ n) → sizeBelow ≡ getD mem (64 + 8 * c + 1) 0 → tableBelow ≡ getD mem (64 + 8 * c + 3) 0 → Tried tableBelow sizeBelow k mem after →
     (m : Map) → Laid m mem → p < partCount m → i < sizeOf m p → Inside m 0 mem → EnteredRow m p i mem after
 row-entered mem {p} {i} {c} {after = after} first-is shown reads some below-is points finds size-is table-is T m L hp hi I =
-    let ri = row-held-in mem first-is shown reads some below-is points finds m L hp hi in
-    let hc = row-child mem first-is shown reads some below-is points finds m L hp hi .0 in
-    let spot = row-place mem first-is shown reads some below-is points finds m L hp hi in
+    let ri = shown-in m mem L p i hp hi first-is shown reads some in
+    let hc = shown-later m mem L p i hp hi first-is shown reads some .0 in
+    let spot = shown-place m mem L p i hp hi first-is shown reads some below-is points finds in
     let k = place-below m (L .sound) p i c hi ri in
     let own = L .part c hc in
     let T′ : Tried (tableOf m c) (sizeOf m c) (placeBelow m p i c) mem after = rw (size-is ∙ own .size, table-is ∙ own .table, spot) at T in

@@ -14,18 +14,14 @@ use Rattle.roads.specs.Dist.{dist}
 use Rattle.parts.specs.Size.{sizeOf, need}
 use Rattle.parts.proofs.Down.{children-says}
 use Rattle.image.specs.Places.{tableOf, firstRowOf}
-use Rattle.image.specs.Image.{partBelow, rowBelow}
 use Rattle.image.specs.Records.{rowVertex}
 use Rattle.assembly.specs.Laid.{Laid, entry}
 use Rattle.assembly.specs.Lower.{lowered, leveled, Honest, Lower}
 use Rattle.assembly.specs.Steps.{RowIn, placeBelow, AgreedFor, AgreedPair, AgreedRow, Agreed, Lines}
-use Rattle.assembly.proofs.Places.{row-real, laid-kept}
+use Rattle.assembly.proofs.Places.{laid-kept}
 use Rattle.assembly.proofs.Lowering.{lower-none, lower-then, lower-one, lower-one-at}
-use Rattle.assembly.proofs.Below.{child-later, row-one, part-below, part-below-says, place-below, row-below}
-
--- a vertex fits beside a part in one word
-pub vertex-small : (m : Map) (mem : List ℕ) → Laid m mem → (p i : ℕ) → i < sizeOf m p → rowVertex m p i < 65536
-vertex-small m mem L p i hi = omega (arith, row-real m p i hi, L .sound .vertices .1)
+use Rattle.assembly.proofs.Below.{child-later, row-one, part-below, place-below}
+use Rattle.assembly.proofs.Shown.{shown-part, shown-nowhere, shown-in, shown-later, shown-place}
 
 module _ (m : Map) (mem : List ℕ) (L : Laid m mem) (low p i j c : ℕ) (hl : low ≤ p) (hp : p < partCount m) (hi : i < sizeOf m p) (hj : j < sizeOf m p)
     (ri : RowIn m p i c) (rj : RowIn m p j c) where
@@ -118,8 +114,7 @@ pair-apart mem {j} {c} {mark} {part} {first} shown reads other m low p i size L 
   where
     apart : (d : ℕ) → RowIn m p i d → RowIn m p j d → ⊥
     apart d di dj =
-        other (reads (rowVertex m p j) (partBelow m p (rowVertex m p j)) (vertex-small m mem L p j hj)
-        (shown ∙ ap (λ (f : ℕ). getD mem (f + 4 * j + 2) 0) (at .first-is) ∙ L .row p j hp hj .mark)
+        other (shown-part m mem L p j hp hj (at .first-is ∙ sym (L .part p hp .first-row)) shown reads
         ∙ part-below m (L .sound) p j d hj dj ∙ sym (row-one m (L .sound) p i c d (at .row-in) di))
 
 -- row j stands in the same child
@@ -132,19 +127,22 @@ pair-together mem {j} {c} {mark} {part} {row} {k} {first} {line} {firstBelow} {l
     rw after-is (leveled-pair m mem L low p i j c hl hp hi hj (at .row-in) in-c (line + column) (lineBelow + place)
     (omega (arith, at .line-is)) (omega (arith, at .line-below-is, found)))
   where
-    is-c : partBelow m p (rowVertex m p j) ≡ c
-    is-c =
-        sym (reads (rowVertex m p j) (partBelow m p (rowVertex m p j)) (vertex-small m mem L p j hj)
-        (shown ∙ ap (λ (f : ℕ). getD mem (f + 4 * j + 2) 0) (at .first-is) ∙ L .row p j hp hj .mark)) ∙ same
+    first-is : first ≡ getD mem (64 + 8 * p + 2) 0
+    first-is = at .first-is ∙ sym (L .part p hp .first-row)
+
+    reads-c : (v d : ℕ) → v < 65536 → mark ≡ v + 65536 * d → c ≡ d
+    reads-c v d h e = sym same ∙ reads v d h e
+
+    some : c ≡ 0 → ⊥
+    some = children-says m p c (at .row-in .is-child) .2
 
     in-c : RowIn m p j c
-    in-c = subst (RowIn m p j) is-c (part-below-says m (L .sound) p j hj (λ none. children-says m p c (at .row-in .is-child) .2 (sym is-c ∙ none)))
+    in-c = shown-in m mem L p j hp hj first-is shown reads-c some
 
     found : k ≡ placeBelow m p j c
     found =
-        finds (placeBelow m p j c)
-        (points ∙ ap (λ (f : ℕ). getD mem (f + 4 * j + 3) 0) (at .first-is) ∙ L .row p j hp hj .below ∙ row-below m (L .sound) p j c hj in-c
-        ∙ ap (λ (f : ℕ). f + 4 * placeBelow m p j c) (sym (at .first-below-is)))
+        shown-place m mem L p j hp hj first-is shown reads-c some
+        (at .first-below-is ∙ sym (L .part c (child-later m (L .sound) p c (at .row-in .is-child) .0) .first-row)) points finds
 
 -- ---- turns of the loops
 
@@ -199,47 +197,26 @@ module _ (start : List ℕ) (p : ℕ) where
 pub row-alone : (mem : List ℕ) {p i c first mark : ℕ} → first ≡ getD mem (64 + 8 * p + 2) 0 → mark ≡ getD mem (first + 4 * i + 2) 0 →
     ((v d : ℕ) → v < 65536 → mark ≡ v + 65536 * d → c ≡ d) → c ≡ 0 →
     (m : Map) (low : ℕ) → Laid m mem → low ≤ p → p < partCount m → i < sizeOf m p → AgreedRow m low p i (sizeOf m p) mem mem
-row-alone mem {p} {i} {c} {first} first-is shown reads none m low L hl hp hi = agreed-none (λ d k l of _ _ dk _. nowhere d (subst (λ (n : ℕ). RowIn m p n d) (of .0) dk))
-  where
-    nowhere : (d : ℕ) → RowIn m p i d → ⊥
-    nowhere d di =
-        children-says m p d (di .is-child) .2 (sym (part-below m (L .sound) p i d hi di)
-        ∙ sym (reads (rowVertex m p i) (partBelow m p (rowVertex m p i)) (vertex-small m mem L p i hi)
-        (shown ∙ ap (λ (f : ℕ). getD mem (f + 4 * i + 2) 0) (first-is ∙ L .part p hp .first-row) ∙ L .row p i hp hi .mark)) ∙ none)
+row-alone mem {p} {i} first-is shown reads none m low L hl hp hi =
+    agreed-none (λ d k l of _ _ dk _. shown-nowhere m mem L p i hp hi first-is shown reads none d (subst (λ (n : ℕ). RowIn m p n d) (of .0) dk))
 
--- the child that holds it, and its row there
-module _ (mem : List ℕ) {p i c first mark row firstBelow k : ℕ} (first-is : first ≡ getD mem (64 + 8 * p + 2) 0) (shown : mark ≡ getD mem (first + 4 * i + 2) 0)
-    (reads : (v d : ℕ) → v < 65536 → mark ≡ v + 65536 * d → c ≡ d) (some : c ≡ 0 → ⊥)
-    (below-is : firstBelow ≡ getD mem (64 + 8 * c + 2) 0) (points : row ≡ getD mem (first + 4 * i + 3) 0) (finds : (n : ℕ) → row ≡ firstBelow + 4 * n → k ≡ n)
-    (m : Map) (L : Laid m mem) (hp : p < partCount m) (hi : i < sizeOf m p) where
-  is-c : c ≡ partBelow m p (rowVertex m p i)
-  is-c =
-      reads (rowVertex m p i) (partBelow m p (rowVertex m p i)) (vertex-small m mem L p i hi)
-      (shown ∙ ap (λ (f : ℕ). getD mem (f + 4 * i + 2) 0) (first-is ∙ L .part p hp .first-row) ∙ L .row p i hp hi .mark)
-
-  pub row-held-in : RowIn m p i c
-  row-held-in = subst⁻¹ (RowIn m p i) is-c (part-below-says m (L .sound) p i hi (λ none. some (is-c ∙ none)))
-
-  pub row-child : (c < partCount m) × (p < c)
-  row-child = child-later m (L .sound) p c (row-held-in .is-child)
-
-  pub row-place : k ≡ placeBelow m p i c
-  row-place =
-      finds (placeBelow m p i c)
-      (points ∙ ap (λ (f : ℕ). getD mem (f + 4 * i + 3) 0) (first-is ∙ L .part p hp .first-row) ∙ L .row p i hp hi .below ∙ row-below m (L .sound) p i c hi row-held-in
-      ∙ ap (λ (f : ℕ). f + 4 * placeBelow m p i c) (sym (below-is ∙ L .part c (row-child .0) .first-row)))
-
-  pub row-lines : {size table sizeBelow tableBelow line lineBelow : ℕ} → size ≡ getD mem (64 + 8 * p + 1) 0 → table ≡ getD mem (64 + 8 * p + 3) 0 →
-      sizeBelow ≡ getD mem (64 + 8 * c + 1) 0 → tableBelow ≡ getD mem (64 + 8 * c + 3) 0 → line ≡ table + size * i → lineBelow ≡ tableBelow + sizeBelow * k →
-      Lines m p i c size first line firstBelow lineBelow
-  row-lines size-is table-is size-below-is table-below-is line-is line-below-is =
-      let own = L .part p hp in
-      let child = L .part c (row-child .0) in
-      record {
-        row-in = row-held-in;
-        size-is = size-is ∙ own .size;
-        first-is = first-is ∙ own .first-row;
-        line-is = line-is ∙ rw (table-is ∙ own .table, size-is ∙ own .size);
-        first-below-is = below-is ∙ child .first-row;
-        line-below-is = line-below-is ∙ rw (table-below-is ∙ child .table, size-below-is ∙ child .size, row-place);
-      }
+-- where its words and those of its row in the child that holds it stand
+pub row-lines : (mem : List ℕ) {p i c first mark row firstBelow k : ℕ} → first ≡ getD mem (64 + 8 * p + 2) 0 → mark ≡ getD mem (first + 4 * i + 2) 0 →
+    ((v d : ℕ) → v < 65536 → mark ≡ v + 65536 * d → c ≡ d) → (c ≡ 0 → ⊥) →
+    firstBelow ≡ getD mem (64 + 8 * c + 2) 0 → row ≡ getD mem (first + 4 * i + 3) 0 → ((n : ℕ) → row ≡ firstBelow + 4 * n → k ≡ n) →
+    (m : Map) → Laid m mem → p < partCount m → i < sizeOf m p →
+    {size table sizeBelow tableBelow line lineBelow : ℕ} → size ≡ getD mem (64 + 8 * p + 1) 0 → table ≡ getD mem (64 + 8 * p + 3) 0 →
+    sizeBelow ≡ getD mem (64 + 8 * c + 1) 0 → tableBelow ≡ getD mem (64 + 8 * c + 3) 0 → line ≡ table + size * i → lineBelow ≡ tableBelow + sizeBelow * k →
+    Lines m p i c size first line firstBelow lineBelow
+row-lines mem {p} {i} {c} first-is shown reads some below-is points finds m L hp hi size-is table-is size-below-is table-below-is line-is line-below-is =
+    let own = L .part p hp in
+    let child = L .part c (shown-later m mem L p i hp hi first-is shown reads some .0) in
+    let place = shown-place m mem L p i hp hi first-is shown reads some below-is points finds in
+    record {
+      row-in = shown-in m mem L p i hp hi first-is shown reads some;
+      size-is = size-is ∙ own .size;
+      first-is = first-is ∙ own .first-row;
+      line-is = line-is ∙ rw (table-is ∙ own .table, size-is ∙ own .size);
+      first-below-is = below-is ∙ child .first-row;
+      line-below-is = line-below-is ∙ rw (table-below-is ∙ child .table, size-below-is ∙ child .size, place);
+    }

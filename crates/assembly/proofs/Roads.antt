@@ -28,7 +28,7 @@ use Rattle.assembly.specs.Steps.{RowIn, Noted, Apart, Marked, RoadsFor, 
 use Rattle.assembly.proofs.Places.{row-real, laid-kept}
 use Rattle.assembly.proofs.Lowering.{lower-none, lower-then, lower-one, lower-one-at}
 use Rattle.assembly.proofs.Below.{part-below-says}
-use Rattle.assembly.proofs.Pairs.{vertex-small}
+use Rattle.assembly.proofs.Shown.{shown-vertex, shown-part}
 use Rattle.assembly.proofs.Range.{road-range, first-road-few, first-road-last}
 
 -- two rows of a part are of two vertices
@@ -36,13 +36,6 @@ pub row-differ : (m : Map) (p i j : ℕ) → i < sizeOf m p → j < sizeOf m p �
 unfolding sizeOf
 row-differ m p i j hi hj e =
     sym (place-of-entry (rows-unique m p) i hi) ∙ ap (λ (v : ℕ). placeIn v (rowVertices m p)) e ∙ place-of-entry (rows-unique m p) j hj
-
--- the vertex of row i, as its word 2 shows it
-pub shown-vertex : (m : Map) (mem : List ℕ) → Laid m mem → (p i : ℕ) → p < partCount m → i < sizeOf m p → {first mark v : ℕ} → first ≡ getD mem (64 + 8 * p + 2) 0 →
-    mark ≡ getD mem (first + 4 * i + 2) 0 → ((u d : ℕ) → u < 65536 → mark ≡ u + 65536 * d → v ≡ u) → v ≡ rowVertex m p i
-shown-vertex m mem L p i hp hi {first} first-is shown reads =
-    reads (rowVertex m p i) (partBelow m p (rowVertex m p i)) (vertex-small m mem L p i hi)
-    (shown ∙ ap (λ (f : ℕ). getD mem (f + 4 * i + 2) 0) (first-is ∙ L .part p hp .first-row) ∙ L .row p i hp hi .mark)
 
 -- ---- places noted
 
@@ -219,12 +212,10 @@ module _ (mem place marks : List ℕ) (p i r : ℕ) {parts a all b c size first 
         (λ hj apart. M .both (omega (arith, wide, few-rows m (L .sound) p hp)) (omega (arith, wide, few-rows m (L .sound) p hp)) (λ same. alone hj apart same))
       where
         own : d ≡ partBelow m p (rowVertex m p i)
-        own = part-reads (rowVertex m p i) (partBelow m p (rowVertex m p i)) (vertex-small m mem L p i hi)
-            (mark-is ∙ ap (λ (f : ℕ). getD mem (f + 4 * i + 2) 0) (first-is ∙ L .part p hp .first-row) ∙ L .row p i hp hi .mark)
+        own = shown-part m mem L p i hp hi first-is mark-is part-reads
 
         other : j < sizeOf m p → e ≡ partBelow m p (rowVertex m p j)
-        other hj = part-reads′ (rowVertex m p j) (partBelow m p (rowVertex m p j)) (vertex-small m mem L p j hj)
-            (mark′-is ∙ ap (λ (f : ℕ). getD mem (f + 4 * j + 2) 0) (first-is ∙ L .part p hp .first-row) ∙ L .row p j hp hj .mark)
+        other hj = shown-part m mem L p j hp hj first-is mark′-is part-reads′
 
         alone : j < sizeOf m p → Apart m p i j → d ≡ e → d ≡ 0
         alone hj apart same = elim (ℕ-discrete d 0) [
