@@ -12,7 +12,7 @@ use Rattle.roads.proofs.Trail.{Net}
 use Rattle.parts.specs.Tree.{children, childOf, isLeaf}
 use Rattle.parts.specs.Border.{borders}
 use Rattle.parts.specs.Size.{rowVertices, sizeOf}
-use Rattle.parts.proofs.Down.{Tree, boundary-inside, children-says, child-inner, children-apart, borders-child, border-row, child-found}
+use Rattle.parts.proofs.Down.{Tree, boundary-inside, children-says, child-inner, children-apart, border-child, border-row, child-found}
 use Rattle.parts.proofs.Gates.{rows-inner}
 use Rattle.maps.specs.Sound.{Sound}
 use Rattle.maps.proofs.Distances.{sound-net, sound-tree}
@@ -55,10 +55,8 @@ module _ (m : Map) (s : Sound m) where
       by : (leaf : Bool) → isLeaf m p ≡ leaf → cond leaf 0 (childOf m p (rowVertex m p i)) ≢ 0 → RowIn m p i (cond leaf 0 (childOf m p (rowVertex m p i)))
       by true e none = absurd (none refl)
       by false e some =
-          let found = borders-child m p (rowVertex m p i) (border-of p i e hi) in
-          let inside = boundary-inside m (found .0) (rowVertex m p i) (found .2) in
-          subst⁻¹ (λ (c : ℕ). RowIn m p i c) (child-found m net tree p (found .0) (rowVertex m p i) (row-real m p i hi) (found .1) inside)
-          (record { is-child = found .1; is-held = inside })
+          let found = border-child m net tree p (rowVertex m p i) (border-of p i e hi) in
+          record { is-child = found .0; is-held = boundary-inside m (childOf m p (rowVertex m p i)) (rowVertex m p i) (found .1) }
 
   -- the vertex has a row in the child
   pub place-below : (p i c : ℕ) → i < sizeOf m p → RowIn m p i c → (placeBelow m p i c < sizeOf m c) × (rowVertex m c (placeBelow m p i c) ≡ rowVertex m p i)

@@ -16,7 +16,7 @@ use Rattle.parts.specs.Tree.{parentOf, holds, children, childOf, isLeaf}
 use Rattle.parts.specs.Border.{boundary, borders}
 use Rattle.parts.specs.Size.{rowVertices}
 use Rattle.parts.proofs.Tree.{Above, here, up, holds-parent, holds-child, one-child}
-use Rattle.parts.proofs.Down.{Tree, boundary-inside, boundary-row, children-says, children-has, child-inner, borders-child, borders-says, child-found}
+use Rattle.parts.proofs.Down.{Tree, boundary-row, children-says, children-has, child-inner, borders-says, border-child}
 use Rattle.parts.proofs.Gates.{rows-inner}
 use Rattle.rows.specs.declared.Row.{Row}
 use Rattle.rows.specs.Row.{rowOf}
@@ -53,26 +53,24 @@ module _ (m : Map) (net : Net m) (tree : Tree m) (v : ℕ) (hv : v < m .vertices
       offered isActive b = onward (rowOf m isActive (childOf m p b) b) (dist m b r)
 
       below : (b : ℕ) → List·Memᴰ b (borders m p) → rowOf m before (childOf m p b) b ≡ rowOf m after (childOf m p b) b
-      below b h =
-          subst⁻¹ (λ (k : ℕ). rowOf m before k b ≡ rowOf m after k b) (child-found m net tree p k b hb (found .1) (boundary-inside m k b (found .2)))
-          (by (true-or-false (holds m k v)))
+      below b h = by (true-or-false (holds m k v))
         where
-          found : (k : ℕ) × List·Memᴰ k (children m p) × (boundary m k b ≡ true)
-          found = borders-child m p b h
-
           k : ℕ
-          k = found .0
+          k = childOf m p b
+
+          found : List·Memᴰ k (children m p) × (boundary m k b ≡ true)
+          found = border-child m net tree p b h
 
           hb : b < m .vertices
           hb = borders-says m net tree p b h .0
 
           child : (k < partCount m) × (parentOf m k ≡ p) × (k ≢ 0)
-          child = children-says m p k (found .1)
+          child = children-says m p k (found .0)
 
           by : (holds m k v ≡ true) ⊎ (holds m k v ≡ false) → rowOf m before k b ≡ rowOf m after k b
           by (inl with-v) =
               let same = one-child m (tree .falls) v (tree .leaf-part v hv) k c with-v inside (child .2) real (child .1) in
-              subst⁻¹ (λ (j : ℕ). rowOf m before j b ≡ rowOf m after j b) same (unseen b hb (subst (λ (j : ℕ). boundary m j b ≡ true) same (found .2)))
+              subst⁻¹ (λ (j : ℕ). rowOf m before j b ≡ rowOf m after j b) same (unseen b hb (subst (λ (j : ℕ). boundary m j b ≡ true) same (found .1)))
           by (inr without) = switch-elsewhere m v switch k b without
 
   -- so no boundary row of the parent changed

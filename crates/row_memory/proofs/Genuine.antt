@@ -21,7 +21,7 @@ use Rattle.parts.specs.Tree.{parentOf, holds, children, childOf, isLeaf, vertic
 use Rattle.parts.specs.Border.{boundary, borders}
 use Rattle.parts.specs.Size.{rowVertices, sizeOf}
 use Rattle.parts.proofs.Rows.{row-vertex}
-use Rattle.parts.proofs.Down.{Tree, boundary-inside, children-says, borders-child, border-row, child-found}
+use Rattle.parts.proofs.Down.{Tree, boundary-row, children-says, border-child}
 use Rattle.rows.specs.declared.Row.{Row}
 use Rattle.rows.specs.Row.{emptyRow, itself, nearer, rowOf}
 use Rattle.rows.specs.Refresh.{onward}
@@ -104,26 +104,22 @@ module _ (m : Map) (net : Net m) (tree : Tree m) (p : ℕ) (hp : p < partCount m
     abbrev pub LaterShow : List ℕ → Type 0
     LaterShow mem = (c : ℕ) → c < partCount m → p < c → RowsShow m isActive mem c
 
-    child-row : (mem : List ℕ) → LaterShow mem → (b : ℕ) → b < m .vertices → List·Memᴰ b (borders m p) → rowIn mem (rowAt m (childOf m p b) b) ≡ rowOf m isActive (childOf m p b) b
+    child-row : (mem : List ℕ) → LaterShow mem → (b : ℕ) → List·Memᴰ b (borders m p) → rowIn mem (rowAt m (childOf m p b) b) ≡ rowOf m isActive (childOf m p b) b
     unfolding rowAt sizeOf
-    child-row mem later b hb border =
-        subst⁻¹ (λ (k : ℕ). rowIn mem (rowAt m k b) ≡ rowOf m isActive k b) (child-found m net tree p c b hb (found .1) inside)
-        (later c (child .0) (omega (arith, tree .falls c (omega (arith, child .2)) (child .0), child .1)) (placeIn b (rowVertices m c)) (place .0) ∙ ap (rowOf m isActive c) (place .1))
+    child-row mem later b border =
+        later c (child .0) (omega (arith, tree .falls c (omega (arith, child .2)) (child .0), child .1)) (placeIn b (rowVertices m c)) (place .0) ∙ ap (rowOf m isActive c) (place .1)
       where
-        found : (c : ℕ) × List·Memᴰ c (children m p) × (boundary m c b ≡ true)
-        found = borders-child m p b border
-
         c : ℕ
-        c = found .0
+        c = childOf m p b
 
-        inside : holds m c b ≡ true
-        inside = boundary-inside m c b (found .2)
+        found : List·Memᴰ c (children m p) × (boundary m c b ≡ true)
+        found = border-child m net tree p b border
 
         child : (c < partCount m) × (parentOf m c ≡ p) × (c ≢ 0)
-        child = children-says m p c (found .1)
+        child = children-says m p c (found .0)
 
         place : (placeIn b (rowVertices m c) < length (rowVertices m c)) × (getD (rowVertices m c) (placeIn b (rowVertices m c)) 0 ≡ b)
-        place = place-in b (rowVertices m c) (border-row m net tree p b c border (found .1) inside)
+        place = place-in b (rowVertices m c) (boundary-row m net tree c b (found .1))
 
     source-shown : (mem : List ℕ) → Laid m isActive mem → LaterShow mem → (i : ℕ) → i < sizeOf m p → sourceIn mem (firstRowOf m p + 4 * i) ≡ source m isActive p (rowVertex m p i)
     unfolding source rowBelow rowVertices
@@ -135,7 +131,7 @@ module _ (m : Map) (net : Net m) (tree : Tree m) (p : ℕ) (hp : p < partCount m
         by : (leaf : Bool) → List·Memᴰ b (cond leaf (verticesOf m p) (borders m p))
             → rowIn mem (cond leaf (itselfAt m b) (rowAt m (childOf m p b) b)) ≡ cond leaf (itself isActive b) (rowOf m isActive (childOf m p b) b)
         by true h = laid .own b (real i hi)
-        by false h = child-row mem later b (real i hi) h
+        by false h = child-row mem later b h
 
     pub ready : (mem : List ℕ) → Laid m isActive mem → LaterShow mem
         → Ready (firstRowOf m p) (sizeOf m p) (tableOf m p) (λ i. source m isActive p (rowVertex m p i)) (λ i j. dist m (rowVertex m p i) (rowVertex m p j)) mem
