@@ -1,7 +1,7 @@
 -- The tables of the children of a part, right over the whole map, by way of the boundary vertices and the part's own table; and so all tables.
 -- Assumes nothing.
 use mathlib.Core.Path.{_≡_, sym, ap, _∙_, subst, subst⁻¹}
-use mathlib.Core.Logic.{_⊎_, inl, inr, ⊎-elim}
+use mathlib.Core.Logic.{_⊎_, inl, inr, ⊎-elim, _≢_}
 use mathlib.Core.Bool.{true}
 use mathlib.Core.List.{List, List·Memᴰ}
 use Prim.Native.Nat.{ℕ, suc, _+_, _*_, _≤_, _<_}
@@ -30,44 +30,33 @@ use Rattle.inner_walks.proofs.Down.{entered-least}
 use Rattle.table_rows.specs.Flat.{Tried}
 use Rattle.assembly.specs.Laid.{Laid, Filled, entry}
 use Rattle.assembly.specs.Lower.{Lower, Inside, Short}
-use Rattle.assembly.specs.Steps.{RowIn, placeBelow, Agreed, Tight, EnteredRow, Entered, Risen, Descended}
+use Rattle.assembly.specs.Steps.{RowIn, placeBelow, RowBelow, Agreed, Tight, EnteredRow, Entered, Risen, Descended}
 use Rattle.assembly.proofs.Places.{row-is, row-real, laid-kept}
 use Rattle.assembly.proofs.Lowering.{lower-none, lower-then, inside-lower}
 use Rattle.assembly.proofs.Trying.{tried-lower, tried-tight, tried-keeps}
 use Rattle.assembly.proofs.Below.{child-later, row-one, place-below}
-use Rattle.assembly.proofs.Shown.{shown-nowhere, shown-in, shown-later, shown-place}
 use Rattle.assembly.proofs.Rising.{rowOfVertex, vertex-row, byVertices, by-rows}
 
 -- ---- one row tried in the child that holds its vertex
 
--- no child holds it
-pub row-nowhere : (mem : List ℕ) {p i c first mark : ℕ} → first ≡ getD mem (64 + 8 * p + 2) 0 → mark ≡ getD mem (first + 4 * i + 2) 0 →
-    ((v d : ℕ) → v < 65536 → mark ≡ v + 65536 * d → c ≡ d) → c ≡ 0 →
-    (m : Map) → Laid m mem → p < partCount m → i < sizeOf m p → Inside m 0 mem → EnteredRow m p i mem mem
-row-nowhere mem {p} {i} first-is shown reads none m L hp hi I = record {
-  lower = lower-none m 0 mem;
-  tight = λ d di. absurd (shown-nowhere m mem L p i hp hi first-is shown reads none d di);
-  keeps = λ q k _ _ tight. tight;
-}
+module _ {m : Map} {p i c size first table row : ℕ} (below : RowBelow m p i c size first table row) where
+  -- no child holds it
+  pub row-nowhere : c ≡ 0 → (mem : List ℕ) → EnteredRow m p i mem mem
+  row-nowhere none mem = record { lower = lower-none m 0 mem; tight = λ d di. absurd (below .alone none d di); keeps = λ q k _ _ tight. tight }
 
-pub row-entered : (mem : List ℕ) {p i c first mark row firstBelow k sizeBelow tableBelow : ℕ} {after : List ℕ} → first ≡ getD mem (64 + 8 * p + 2) 0 → mark ≡ getD mem (first + 4 * i + 2) 0 →
-    ((v d : ℕ) → v < 65536 → mark ≡ v + 65536 * d → c ≡ d) → (c ≡ 0 → ⊥) → firstBelow ≡ getD mem (64 + 8 * c + 2) 0 → row ≡ getD mem (first + 4 * i + 3) 0 →
-    ((n : ℕ) → row ≡ firstBelow + 4 * n → k ≡ n) → sizeBelow ≡ getD mem (64 + 8 * c + 1) 0 → tableBelow ≡ getD mem (64 + 8 * c + 3) 0 → Tried tableBelow sizeBelow k mem after →
-    (m : Map) → Laid m mem → p < partCount m → i < sizeOf m p → Inside m 0 mem → EnteredRow m p i mem after
-row-entered mem {p} {i} {c} {after = after} first-is shown reads some below-is points finds size-is table-is T m L hp hi I =
-    let ri = shown-in m mem L p i hp hi first-is shown reads some in
-    let hc = shown-later m mem L p i hp hi first-is shown reads some .0 in
-    let spot = shown-place m mem L p i hp hi first-is shown reads some below-is points finds in
-    let k = place-below m (L .sound) p i c hi ri in
-    let own = L .part c hc in
-    let T′ : Tried (tableOf m c) (sizeOf m c) (placeBelow m p i c) mem after = rw (size-is ∙ own .size, table-is ∙ own .table, spot) at T in
-    record {
-      lower = tried-lower m mem after L c (placeBelow m p i c) hc (k .0) T′ 0 (omega arith);
-      tight = λ d di. subst (λ (x : ℕ). Tight m x (placeBelow m p i x) after) (row-one m (L .sound) p i c d ri di)
-          (tried-tight m mem after L c (placeBelow m p i c) hc (k .0) T′
-          (I .inner c (placeBelow m p i c) (placeBelow m p i c) 0 (omega arith) hc (k .0) (k .0) (rest (subst⁻¹ (λ (v : ℕ). holds m c v ≡ true) (k .1) (ri .is-held)))));
-      keeps = λ q l hq hl tight. tried-keeps m mem after L c (placeBelow m p i c) hc (k .0) T′ q l hq hl tight;
-    }
+  pub row-entered : c ≢ 0 → {mem after : List ℕ} → Tried table size row mem after → Laid m mem → i < sizeOf m p → Inside m 0 mem → EnteredRow m p i mem after
+  row-entered some {mem} {after} T L hi I =
+      let ri = below .row-in some in
+      let hc = below .is-part some in
+      let k = place-below m (L .sound) p i c hi ri in
+      let T′ : Tried (tableOf m c) (sizeOf m c) (placeBelow m p i c) mem after = rw (below .size-is some, below .table-is some, below .row-is some) at T in
+      record {
+        lower = tried-lower m mem after L c (placeBelow m p i c) hc (k .0) T′ 0 (omega arith);
+        tight = λ d di. subst (λ (x : ℕ). Tight m x (placeBelow m p i x) after) (row-one m (L .sound) p i c d ri di)
+            (tried-tight m mem after L c (placeBelow m p i c) hc (k .0) T′
+            (I .inner c (placeBelow m p i c) (placeBelow m p i c) 0 (omega arith) hc (k .0) (k .0) (rest (subst⁻¹ (λ (v : ℕ). holds m c v ≡ true) (k .1) (ri .is-held)))));
+        keeps = λ q l hq hl tight. tried-keeps m mem after L c (placeBelow m p i c) hc (k .0) T′ q l hq hl tight;
+      }
 
 -- ---- row after row
 

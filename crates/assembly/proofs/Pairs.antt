@@ -1,7 +1,7 @@
 -- The words of two vertices in a part and in a child that holds both, leveled.
 -- Assumes nothing.
 use mathlib.Core.Path.{_≡_, refl, sym, ap, _∙_, subst, subst⁻¹}
-use mathlib.Core.Logic.{_⊎_, inl, inr}
+use mathlib.Core.Logic.{_⊎_, inl, inr, _≢_}
 use mathlib.Core.List.{List}
 use Prim.Native.Nat.{ℕ, _+_, _*_, _≤_, _<_, min}
 use native.Mathlib.Nat.{eq-or-lt-of-le}
@@ -17,11 +17,11 @@ use Rattle.image.specs.Places.{tableOf, firstRowOf}
 use Rattle.image.specs.Records.{rowVertex}
 use Rattle.assembly.specs.Laid.{Laid, entry}
 use Rattle.assembly.specs.Lower.{lowered, leveled, Honest, Lower}
-use Rattle.assembly.specs.Steps.{RowIn, placeBelow, AgreedFor, AgreedPair, AgreedRow, Agreed, Lines}
+use Rattle.assembly.specs.Steps.{RowIn, placeBelow, RowBelow, AgreedFor, AgreedPair, AgreedRow, Agreed, Lines}
 use Rattle.assembly.proofs.Places.{laid-kept}
 use Rattle.assembly.proofs.Lowering.{lower-none, lower-then, lower-one, lower-one-at}
 use Rattle.assembly.proofs.Below.{child-later, row-one, part-below, place-below}
-use Rattle.assembly.proofs.Shown.{shown-part, shown-nowhere, shown-in, shown-later, shown-place}
+use Rattle.assembly.proofs.Shown.{shown-part, shown-in, shown-place}
 
 module _ (m : Map) (mem : List ℕ) (L : Laid m mem) (low p i j c : ℕ) (hl : low ≤ p) (hp : p < partCount m) (hi : i < sizeOf m p) (hj : j < sizeOf m p)
     (ri : RowIn m p i c) (rj : RowIn m p j c) where
@@ -133,7 +133,7 @@ pair-together mem {j} {c} {mark} {part} {row} {k} {first} {line} {firstBelow} {l
     reads-c : (v d : ℕ) → v < 65536 → mark ≡ v + 65536 * d → c ≡ d
     reads-c v d h e = sym same ∙ reads v d h e
 
-    some : c ≡ 0 → ⊥
+    some : c ≢ 0
     some = children-says m p c (at .row-in .is-child) .2
 
     in-c : RowIn m p j c
@@ -191,32 +191,22 @@ module _ (start : List ℕ) (p : ℕ) where
   rows-done mem i within all shown done m low L hl hp =
       subst (λ (n : ℕ). Agreed m low p n start mem) (omega (arith, L .part p hp .size)) (done m low L hl hp)
 
--- ---- row i as the words of the memory show it
+-- ---- row i as its words tell
 
--- no child holds it: nothing is to be done
-pub row-alone : (mem : List ℕ) {p i c first mark : ℕ} → first ≡ getD mem (64 + 8 * p + 2) 0 → mark ≡ getD mem (first + 4 * i + 2) 0 →
-    ((v d : ℕ) → v < 65536 → mark ≡ v + 65536 * d → c ≡ d) → c ≡ 0 →
-    (m : Map) (low : ℕ) → Laid m mem → low ≤ p → p < partCount m → i < sizeOf m p → AgreedRow m low p i (sizeOf m p) mem mem
-row-alone mem {p} {i} first-is shown reads none m low L hl hp hi =
-    agreed-none (λ d k l of _ _ dk _. shown-nowhere m mem L p i hp hi first-is shown reads none d (subst (λ (n : ℕ). RowIn m p n d) (of .0) dk))
+module _ {m : Map} {p i c size first table row : ℕ} (below : RowBelow m p i c size first table row) where
+  -- no child holds it: nothing is to be done
+  pub row-alone : c ≡ 0 → (low : ℕ) (mem : List ℕ) → AgreedRow m low p i (sizeOf m p) mem mem
+  row-alone none low mem = agreed-none (λ d k l of _ _ dk _. below .alone none d (subst (λ (n : ℕ). RowIn m p n d) (of .0) dk))
 
--- where its words and those of its row in the child that holds it stand
-pub row-lines : (mem : List ℕ) {p i c first mark row firstBelow k : ℕ} → first ≡ getD mem (64 + 8 * p + 2) 0 → mark ≡ getD mem (first + 4 * i + 2) 0 →
-    ((v d : ℕ) → v < 65536 → mark ≡ v + 65536 * d → c ≡ d) → (c ≡ 0 → ⊥) →
-    firstBelow ≡ getD mem (64 + 8 * c + 2) 0 → row ≡ getD mem (first + 4 * i + 3) 0 → ((n : ℕ) → row ≡ firstBelow + 4 * n → k ≡ n) →
-    (m : Map) → Laid m mem → p < partCount m → i < sizeOf m p →
-    {size table sizeBelow tableBelow line lineBelow : ℕ} → size ≡ getD mem (64 + 8 * p + 1) 0 → table ≡ getD mem (64 + 8 * p + 3) 0 →
-    sizeBelow ≡ getD mem (64 + 8 * c + 1) 0 → tableBelow ≡ getD mem (64 + 8 * c + 3) 0 → line ≡ table + size * i → lineBelow ≡ tableBelow + sizeBelow * k →
-    Lines m p i c size first line firstBelow lineBelow
-row-lines mem {p} {i} {c} first-is shown reads some below-is points finds m L hp hi size-is table-is size-below-is table-below-is line-is line-below-is =
-    let own = L .part p hp in
-    let child = L .part c (shown-later m mem L p i hp hi first-is shown reads some .0) in
-    let place = shown-place m mem L p i hp hi first-is shown reads some below-is points finds in
-    record {
-      row-in = shown-in m mem L p i hp hi first-is shown reads some;
-      size-is = size-is ∙ own .size;
-      first-is = first-is ∙ own .first-row;
-      line-is = line-is ∙ rw (table-is ∙ own .table, size-is ∙ own .size);
-      first-below-is = below-is ∙ child .first-row;
-      line-below-is = line-below-is ∙ rw (table-below-is ∙ child .table, size-below-is ∙ child .size, place);
-    }
+  -- where its words and those of its row in the child stand
+  pub row-lines : c ≢ 0 → {mem : List ℕ} → Laid m mem → p < partCount m → {own ownFirst ownTable line lineBelow : ℕ} →
+      own ≡ getD mem (64 + 8 * p + 1) 0 → ownFirst ≡ getD mem (64 + 8 * p + 2) 0 → ownTable ≡ getD mem (64 + 8 * p + 3) 0 →
+      line ≡ ownTable + own * i → lineBelow ≡ table + size * row → Lines m p i c own ownFirst line first lineBelow
+  row-lines some L hp size-is first-is table-is line-is line-below-is = record {
+    row-in = below .row-in some;
+    size-is = size-is ∙ L .part p hp .size;
+    first-is = first-is ∙ L .part p hp .first-row;
+    line-is = line-is ∙ rw (table-is ∙ L .part p hp .table, size-is ∙ L .part p hp .size);
+    first-below-is = below .first-is some;
+    line-below-is = line-below-is ∙ rw (below .table-is some, below .size-is some, below .row-is some);
+  }

@@ -27,6 +27,17 @@ pub record RowIn (m : Map) (p i c : ℕ) : Type 0 where
   pub is-child : List·Memᴰ c (children m p)
   pub is-held : holds m c (rowVertex m p i) ≡ true
 
+-- what the words of row i of p tell of its row in the child that holds it: the child, 0 where none does, its size, where its rows and its table
+-- start, and the row
+pub record RowBelow (m : Map) (p i part size first table row : ℕ) : Type 0 where
+  pub alone : part ≡ 0 → (c : ℕ) → RowIn m p i c → ⊥
+  pub row-in : part ≢ 0 → RowIn m p i part
+  pub is-part : part ≢ 0 → part < partCount m
+  pub size-is : part ≢ 0 → size ≡ sizeOf m part
+  pub first-is : part ≢ 0 → first ≡ firstRowOf m part
+  pub table-is : part ≢ 0 → table ≡ tableOf m part
+  pub row-is : part ≢ 0 → row ≡ placeBelow m p i part
+
 -- ---- the words of a part and of its children, for the same two vertices
 
 -- for the rows i and j of part p with `Of i j`: the words of part and child are no more than what the other was
