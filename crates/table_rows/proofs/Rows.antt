@@ -3,7 +3,7 @@
 use mathlib.Core.Path.{_≡_, refl, sym, ap, _∙_}
 use mathlib.Core.Logic.{_⊎_, inl, inr, ⊎-elim, _≢_}
 use mathlib.Core.List.{List}
-use Prim.Native.Nat.{ℕ, suc, _+_, _*_, _-_, _≤_, _<_, min}
+use Prim.Native.Nat.{ℕ, _+_, _*_, _-_, _≤_, _<_, min}
 use native.Mathlib.Nat.{mul-le-mul-left, mul-suc, mul-zero, eq-or-lt-of-le}
 use native.Mathlib.Numerals.{add-one}
 use native.Mathlib.Decide.{decLt, ℕ-discrete}
@@ -43,6 +43,9 @@ module _ (words : List ℕ) (from to : ℕ) (rising : from ≤ to) (inside : to 
           rw e at (sym (getD-drop to (putMid from (to - from) words new) (i - to) 0)
           ∙ ap (λ (l : List ℕ). getD l (i - to) 0) (drop-put from to words new rising inside sized)
           ∙ getD-drop to words (i - to) 0)
+
+      pub put-outside : (i : ℕ) → (i < from) ⊎ (to ≤ i) → getD (putMid from (to - from) words new) i 0 ≡ getD words i 0
+      put-outside i out = ⊎-elim (put-before i) (put-after i) out
 
       pub put-length : length (putMid from (to - from) words new) ≡ length words
       put-length = same-len-mid from (to - from) words new (sized ∙ sym part-length)
@@ -107,47 +110,40 @@ module _ {count n : ℕ} {F : ℕ → ℕ → ℕ} {start words : List ℕ} {i a
   pub filling-at : i < count → (b : ℕ) → b < n → getD (take (at + n - at) (drop at words)) b 0 ≡ entry n start i b
   filling-at h b hb = part-at words at (at + n) (omega arith) (filling-room h) b (omega arith) ∙ rw (s .place) (s .left i b (omega arith) h hb)
 
-  pub filling-step : i < count → {new : List ℕ} → RowIs n (F i) new → Filling count n F start (putMid at (at + n - at) words new) (i + 1) (at + n)
-  filling-step h {new} f =
-      let inside = filling-room h in
-      let sized : length new ≡ at + n - at = omega (arith, f .sized) in
-      record {
-        fits = s .fits;
-        sized = put-length words at (at + n) (omega arith) inside new sized ∙ s .sized;
-        within = omega arith;
-        place = rw (add-one, mul-suc, s .place);
-        done = λ a b ha hb. elim (eq-or-lt-of-le ha) [
-          | inl q ↦
-              let same : a ≡ i = omega arith in
-              rw (same, ← s .place) (put-at words at (at + n) (omega arith) inside new sized b (omega arith) ∙ f .each b hb)
-          | inr l ↦
-              let above : a < i = omega arith in
-              put-before words at (at + n) (omega arith) inside new (n * a + b) (omega (arith, rows-apart n above, s .place)) ∙ s .done a b above hb
-        ];
-        left = λ a b ha hn hb.
-            let below : i < a = omega arith in
-            put-after words at (at + n) (omega arith) inside new sized (n * a + b) (omega (arith, rows-apart n below, s .place)) ∙ s .left a b (omega arith) hn hb;
-      }
-
-  -- one word of row i is written, and the others have the words of `F` from the start
-  pub filling-one : i < count → (j : ℕ) → j < n → {v : ℕ} → v ≡ F i j → ((b : ℕ) → b < n → b ≢ j → entry n start i b ≡ F i b) → Filling count n F start (set words (at + j) v) (i + 1) (at + n)
-  filling-one h j hj {v} e kept = record {
+  -- row i has the words of `F`, and no word outside it has changed
+  filling-next : i < count → {after : List ℕ} → length after ≡ length words → ((b : ℕ) → b < n → getD after (at + b) 0 ≡ F i b) →
+      ((x : ℕ) → (x < at) ⊎ (at + n ≤ x) → getD after x 0 ≡ getD words x 0) → Filling count n F start after (i + 1) (at + n)
+  filling-next h long own others = record {
     fits = s .fits;
-    sized = simp length-set (s .sized);
+    sized = long ∙ s .sized;
     within = omega arith;
     place = rw (add-one, mul-suc, s .place);
     done = λ a b ha hb. elim (eq-or-lt-of-le ha) [
       | inl q ↦
           let same : a ≡ i = omega arith in
-          rw (same, ← s .place) (own b hb (ℕ-discrete b j))
+          rw (same, ← s .place) (own b hb)
       | inr l ↦
           let above : a < i = omega arith in
-          getD-set-other words (at + j) (n * a + b) v 0 (λ same. omega (arith, rows-apart n above, s .place)) ∙ s .done a b above hb
+          others (n * a + b) (inl (omega (arith, rows-apart n above, s .place))) ∙ s .done a b above hb
     ];
     left = λ a b ha hn hb.
         let below : i < a = omega arith in
-        getD-set-other words (at + j) (n * a + b) v 0 (λ same. omega (arith, rows-apart n below, s .place)) ∙ s .left a b (omega arith) hn hb;
+        others (n * a + b) (inr (omega (arith, rows-apart n below, s .place))) ∙ s .left a b (omega arith) hn hb;
   }
+
+  pub filling-step : i < count → {new : List ℕ} → RowIs n (F i) new → Filling count n F start (putMid at (at + n - at) words new) (i + 1) (at + n)
+  filling-step h {new} f =
+      let inside = filling-room h in
+      let sized : length new ≡ at + n - at = omega (arith, f .sized) in
+      filling-next h (put-length words at (at + n) (omega arith) inside new sized)
+      (λ b hb. put-at words at (at + n) (omega arith) inside new sized b (omega arith) ∙ f .each b hb)
+      (put-outside words at (at + n) (omega arith) inside new sized)
+
+  -- one word of row i is written, and the others have the words of `F` from the start
+  pub filling-one : i < count → (j : ℕ) → j < n → {v : ℕ} → v ≡ F i j → ((b : ℕ) → b < n → b ≢ j → entry n start i b ≡ F i b) → Filling count n F start (set words (at + j) v) (i + 1) (at + n)
+  filling-one h j hj {v} e kept =
+      filling-next h (length-set words (at + j) v) (λ b hb. own b hb (ℕ-discrete b j))
+      (λ x out. getD-set-other words (at + j) x v 0 (λ same. ⊎-elim (λ below. omega arith) (λ above. omega arith) out))
     where
       own : (b : ℕ) → b < n → Dec (b ≡ j) → getD (set words (at + j) v) (at + b) 0 ≡ F i b
       own b hb (yes same) = rw same (getD-set-same words (at + j) v 0 (omega (arith, filling-room h)) ∙ e)
@@ -226,10 +222,7 @@ module _ (mem : List ℕ) (at n : ℕ) (T : (ℕ → ℕ → ℕ) → ℕ → �
 
   pub becomes : ((i j : ℕ) → i < n → j < n → entry n new i j ≡ T (λ a b. getD mem (at + (n * a + b)) 0) i j) → Becomes at n T mem (putMid at (at + n * n - at) mem new)
   becomes each = record {
-    outside = λ x out. ⊎-elim
-        (λ below. put-before mem at (at + n * n) (omega arith) fits new x below)
-        (λ above. put-after mem at (at + n * n) (omega arith) fits new (sized ∙ lent) x above)
-        out;
+    outside = put-outside mem at (at + n * n) (omega arith) fits new (sized ∙ lent);
     each = λ i j hi hj. put-at mem at (at + n * n) (omega arith) fits new (sized ∙ lent) (n * i + j) (omega (arith, rows-apart n hi)) ∙ each i j hi hj;
   }
 
