@@ -1,7 +1,7 @@
 -- The tables of the children of a part, right over the whole map, by way of the boundary vertices and the part's own table; and so all tables.
 -- Assumes nothing.
-use mathlib.Core.Path.{_≡_, sym, ap, _∙_, subst, subst⁻¹}
-use mathlib.Core.Logic.{_⊎_, inl, inr, ⊎-elim, _≢_}
+use mathlib.Core.Path.{_≡_, ap, _∙_, subst, subst⁻¹}
+use mathlib.Core.Logic.{inl, inr, ⊎-elim, _≢_}
 use mathlib.Core.Bool.{true}
 use mathlib.Core.List.{List, List·Memᴰ}
 use Prim.Native.Nat.{ℕ, suc, _+_, _*_, _≤_, _<_}

@@ -22,7 +22,7 @@ use Rattle.image.specs.Places.{verticesAt, roadsAt, tableOf}
 use Rattle.image.specs.Image.{firstRoadFrom, partBelow}
 use Rattle.image.specs.Records.{rowVertex}
 use Rattle.image.proofs.Records.{vertices-start, roads-start}
-use Rattle.assembly.specs.Laid.{Laid, entry}
+use Rattle.assembly.specs.Laid.{Laid}
 use Rattle.assembly.specs.Lower.{lowered}
 use Rattle.assembly.specs.Steps.{RowIn, Noted, Apart, Marked, RoadsFor, RoadsOf, Roads}
 use Rattle.assembly.proofs.Places.{row-real, laid-kept}

@@ -3,18 +3,17 @@ use mathlib.Core.Path.{_≡_}
 use mathlib.Core.Logic.{_⊎_, _≢_}
 use mathlib.Core.Bool.{true}
 use mathlib.Core.List.{List, List·Memᴰ}
-use Prim.Native.Nat.{ℕ, suc, _+_, _*_, _≤_, _<_, min}
-use lib.ListN.{length, getD}
+use Prim.Native.Nat.{ℕ, _+_, _*_, _≤_, _<_}
+use lib.ListN.{length}
 use Rattle.words.specs.Lists.{word, placeIn}
 use Rattle.roads.specs.Map.{Map, partCount, roadCount, roadAt}
-use Rattle.roads.specs.Dist.{dist}
 use Rattle.parts.specs.Tree.{parentOf, holds, children}
 use Rattle.parts.specs.Size.{rowVertices, sizeOf}
 use Rattle.image.specs.Places.{tableOf, firstRowOf}
 use Rattle.image.specs.Records.{rowVertex}
 use Rattle.table_rows.specs.Flat.{Tried}
-use Rattle.assembly.specs.Laid.{Laid, entry, Outside}
-use Rattle.assembly.specs.Lower.{Honest, Lower, Inside, Short}
+use Rattle.assembly.specs.Laid.{entry, Outside}
+use Rattle.assembly.specs.Lower.{Lower, Inside, Short}
 
 -- ---- a row of a part and the same vertex's row in a child
 
