@@ -1,8 +1,8 @@
 -- An early end: where no boundary row of a part changed, no row above it changes.
 -- Assumes nothing.
 use mathlib.Core.Path.{_≡_, refl, sym, _∙_, ap, subst, subst⁻¹}
-use mathlib.Core.Logic.{_⊎_, inl, inr, ⊎-elim, _≢_}
-use mathlib.Core.Bool.{Bool, true, false, true≢false}
+use mathlib.Core.Logic.{_⊎_, inl, inr, _≢_}
+use mathlib.Core.Bool.{Bool, true, false}
 use mathlib.Core.List.{List·Memᴰ}
 use Prim.Native.Nat.{ℕ, _<_}
 use native.Mathlib.Decide.{ℕ-discrete}
@@ -15,7 +15,7 @@ use Rattle.roads.proofs.Trail.{Net}
 use Rattle.parts.specs.Tree.{parentOf, holds, children, childOf, isLeaf}
 use Rattle.parts.specs.Border.{boundary, borders}
 use Rattle.parts.specs.Size.{rowVertices}
-use Rattle.parts.proofs.Tree.{Above, here, up, holds-parent, holds-child, one-child}
+use Rattle.parts.proofs.Tree.{Above, here, up, holds-parent, one-child}
 use Rattle.parts.proofs.Down.{Tree, boundary-row, children-says, children-has, child-inner, borders-says, border-child}
 use Rattle.parts.proofs.Gates.{rows-inner}
 use Rattle.rows.specs.declared.Row.{Row}

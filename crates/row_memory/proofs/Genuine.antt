@@ -2,12 +2,12 @@
 -- Assumes nothing.
 use mathlib.Core.Path.{_≡_, refl, sym, _∙_, ap, subst⁻¹}
 use mathlib.Core.Logic.{inl, inr, ⊎-elim, _≢_}
-use mathlib.Core.Bool.{Bool, true, false, _&&_, cond}
+use mathlib.Core.Bool.{Bool, true, false, cond}
 use mathlib.Core.List.{List, [], _∷_, map, foldr, List·Memᴰ}
-use Prim.Native.Nat.{ℕ, zero, suc, _+_, _*_, _≤_, _<_}
+use Prim.Native.Nat.{ℕ, zero, suc, _+_, _*_, _<_}
 use native.Mathlib.Omega.{arith}
 use lib.ListN.{length, getD}
-use lib.Dec.{eqb, leb}
+use lib.Dec.{eqb}
 use borrow.Author.Tests.{le-ltb, le-leb}
 use Rattle.words.specs.Limits.{FAR}
 use Rattle.words.specs.Lists.{word, countFrom, placeIn}
@@ -17,7 +17,7 @@ use Rattle.roads.specs.Map.{Map, partCount}
 use Rattle.roads.specs.Dist.{dist}
 use Rattle.roads.proofs.Trail.{Net}
 use Rattle.roads.proofs.Laws.{dist-triangle}
-use Rattle.parts.specs.Tree.{parentOf, holds, children, childOf, isLeaf, verticesOf}
+use Rattle.parts.specs.Tree.{parentOf, children, childOf, isLeaf, verticesOf}
 use Rattle.parts.specs.Border.{boundary, borders}
 use Rattle.parts.specs.Size.{rowVertices, sizeOf}
 use Rattle.parts.proofs.Rows.{row-vertex}
@@ -36,8 +36,8 @@ use Rattle.row_changes.proofs.Refresh.{row-met, row-left}
 use Rattle.row_refresh.specs.Model.{rowIn, sourceIn, bringing, led, partAt, rowsHere, fits, changed, touches, refreshed, touched}
 use Rattle.row_memory.specs.Kept.{Kept}
 use Rattle.row_memory.specs.Laid.{Few, Laid, RowsShow}
-use Rattle.row_memory.proofs.Apart.{rows-last, rows-first, table-last, table-before, part-before, itself-before, early, beside}
-use Rattle.row_memory.proofs.Offered.{Plain, kept-self}
+use Rattle.row_memory.proofs.Apart.{rows-last, table-last, table-before, part-before, itself-before, early, beside}
+use Rattle.row_memory.proofs.Offered.{Plain}
 use Rattle.row_memory.proofs.OnePart.{Ready, Triangle, Closed, arrived-rows, arrived-none}
 use Rattle.row_memory.proofs.Departure.{Fits, departed-rows, departed-none}
 
