@@ -1,7 +1,7 @@
 -- The tables of the children of a part, right over the whole map, by way of the boundary vertices and the part's own table; and so all tables.
 -- Assumes nothing.
-use mathlib.Core.Path.{_≡_, sym, ap, _∙_, subst, subst⁻¹}
-use mathlib.Core.Logic.{_⊎_, inl, inr, ⊎-elim}
+use mathlib.Core.Path.{_≡_, ap, _∙_, subst, subst⁻¹}
+use mathlib.Core.Logic.{inl, inr, ⊎-elim, _≢_}
 use mathlib.Core.Bool.{true}
 use mathlib.Core.List.{List, List·Memᴰ}
 use Prim.Native.Nat.{ℕ, suc, _+_, _*_, _≤_, _<_}
@@ -13,66 +13,50 @@ use lib.ListN.{getD}
 use Rattle.words.specs.Limits.{FAR}
 use Rattle.words.specs.Lists.{placeIn}
 use Rattle.roads.specs.Map.{Map, partCount}
-use Rattle.roads.specs.Walk.{Walk}
+use Rattle.roads.specs.Walk.{Walk, rest}
 use Rattle.roads.specs.Dist.{dist}
+use Rattle.roads.proofs.Inner.{walk-inner}
 use Rattle.roads.proofs.Exact.{dist-exact}
 use Rattle.parts.specs.Tree.{parentOf, holds, children}
 use Rattle.parts.specs.Border.{boundary}
 use Rattle.parts.specs.Size.{rowVertices, sizeOf}
-use Rattle.parts.proofs.Down.{boundary-inside, children-says, children-has, root-holds}
+use Rattle.parts.proofs.Down.{boundary-inside, children-has, root-holds}
 use Rattle.parts.proofs.Gates.{boundary-above}
 use Rattle.maps.proofs.Distances.{sound-net, sound-tree}
 use Rattle.image.specs.Places.{tableOf}
-use Rattle.image.specs.Image.{partBelow}
 use Rattle.image.specs.Records.{rowVertex}
-use Rattle.inner_walks.specs.Inner.{Inner, rest}
-use Rattle.inner_walks.proofs.Inner.{walk-inner}
+use Rattle.inner_walks.specs.Inner.{Inner}
 use Rattle.inner_walks.proofs.Down.{entered-least}
 use Rattle.table_rows.specs.Flat.{Tried}
 use Rattle.assembly.specs.Laid.{Laid, Filled, entry}
 use Rattle.assembly.specs.Lower.{Lower, Inside, Short}
-use Rattle.assembly.specs.Steps.{RowIn, placeBelow, Agreed, Tight, EnteredRow, Entered, Risen, Descended}
+use Rattle.assembly.specs.Steps.{RowIn, placeBelow, RowBelow, Agreed, Tight, EnteredRow, Entered, Risen, Descended}
 use Rattle.assembly.proofs.Places.{row-is, row-real, laid-kept}
 use Rattle.assembly.proofs.Lowering.{lower-none, lower-then, inside-lower}
 use Rattle.assembly.proofs.Trying.{tried-lower, tried-tight, tried-keeps}
-use Rattle.assembly.proofs.Below.{child-later, row-one, part-below, place-below}
-use Rattle.assembly.proofs.Pairs.{vertex-small, row-held-in, row-child, row-place}
-use Rattle.assembly.proofs.Rising.{rowOfVertex, vertex-row, row-again}
+use Rattle.assembly.proofs.Below.{child-later, row-one, place-below}
+use Rattle.assembly.proofs.Rising.{rowOfVertex, vertex-row, byVertices, by-rows}
 
 -- ---- one row tried in the child that holds its vertex
 
--- no child holds it
-pub row-nowhere : (mem : List ℕ) {p i c first mark : ℕ} → first ≡ getD mem (64 + 8 * p + 2) 0 → mark ≡ getD mem (first + 4 * i + 2) 0 →
-    ((v d : ℕ) → v < 65536 → mark ≡ v + 65536 * d → c ≡ d) → c ≡ 0 →
-    (m : Map) → Laid m mem → p < partCount m → i < sizeOf m p → Inside m 0 mem → EnteredRow m p i mem mem
-row-nowhere mem {p} {i} first-is shown reads none m L hp hi I = record {
-  lower = lower-none m 0 mem;
-  tight = λ d di. absurd (
-      children-says m p d (di .is-child) .2 (sym (part-below m (L .sound) p i d hi di)
-      ∙ sym (reads (rowVertex m p i) (partBelow m p (rowVertex m p i)) (vertex-small m mem L p i hi)
-      (shown ∙ ap (λ (f : ℕ). getD mem (f + 4 * i + 2) 0) (first-is ∙ L .part p hp .first-row) ∙ L .row p i hp hi .mark)) ∙ none)
-      );
-  keeps = λ q k _ _ tight. tight;
-}
+module _ {m : Map} {p i c size first table row : ℕ} (below : RowBelow m p i c size first table row) where
+  -- no child holds it
+  pub row-nowhere : c ≡ 0 → (mem : List ℕ) → EnteredRow m p i mem mem
+  row-nowhere none mem = record { lower = lower-none m 0 mem; tight = λ d di. absurd (below .alone none d di); keeps = λ q k _ _ tight. tight }
 
-pub row-entered : (mem : List ℕ) {p i c first mark row firstBelow k sizeBelow tableBelow : ℕ} {after : List ℕ} → first ≡ getD mem (64 + 8 * p + 2) 0 → mark ≡ getD mem (first + 4 * i + 2) 0 →
-    ((v d : ℕ) → v < 65536 → mark ≡ v + 65536 * d → c ≡ d) → (c ≡ 0 → ⊥) → firstBelow ≡ getD mem (64 + 8 * c + 2) 0 → row ≡ getD mem (first + 4 * i + 3) 0 →
-    ((n : ℕ) → row ≡ firstBelow + 4 * n → k ≡ n) → sizeBelow ≡ getD mem (64 + 8 * c + 1) 0 → tableBelow ≡ getD mem (64 + 8 * c + 3) 0 → Tried tableBelow sizeBelow k mem after →
-    (m : Map) → Laid m mem → p < partCount m → i < sizeOf m p → Inside m 0 mem → EnteredRow m p i mem after
-row-entered mem {p} {i} {c} {after = after} first-is shown reads some below-is points finds size-is table-is T m L hp hi I =
-    let ri = row-held-in mem first-is shown reads some below-is points finds m L hp hi in
-    let hc = row-child mem first-is shown reads some below-is points finds m L hp hi .0 in
-    let spot = row-place mem first-is shown reads some below-is points finds m L hp hi in
-    let k = place-below m (L .sound) p i c hi ri in
-    let own = L .part c hc in
-    let T′ : Tried (tableOf m c) (sizeOf m c) (placeBelow m p i c) mem after = rw (size-is ∙ own .size, table-is ∙ own .table, spot) at T in
-    record {
-      lower = tried-lower m mem after L c (placeBelow m p i c) hc (k .0) T′ 0 (omega arith);
-      tight = λ d di. subst (λ (x : ℕ). Tight m x (placeBelow m p i x) after) (row-one m (L .sound) p i c d ri di)
-          (tried-tight m mem after L c (placeBelow m p i c) hc (k .0) T′
-          (I .inner c (placeBelow m p i c) (placeBelow m p i c) 0 (omega arith) hc (k .0) (k .0) (rest (subst⁻¹ (λ (v : ℕ). holds m c v ≡ true) (k .1) (ri .is-held)))));
-      keeps = λ q l hq hl tight. tried-keeps m mem after L c (placeBelow m p i c) hc (k .0) T′ q l hq hl tight;
-    }
+  pub row-entered : c ≢ 0 → {mem after : List ℕ} → Tried table size row mem after → Laid m mem → i < sizeOf m p → Inside m 0 mem → EnteredRow m p i mem after
+  row-entered some {mem} {after} T L hi I =
+      let ri = below .row-in some in
+      let hc = below .is-part some in
+      let k = place-below m (L .sound) p i c hi ri in
+      let T′ : Tried (tableOf m c) (sizeOf m c) (placeBelow m p i c) mem after = rw (below .size-is some, below .table-is some, below .row-is some) at T in
+      record {
+        lower = tried-lower m mem after L c (placeBelow m p i c) hc (k .0) T′ 0 (omega arith);
+        tight = λ d di. subst (λ (x : ℕ). Tight m x (placeBelow m p i x) after) (row-one m (L .sound) p i c d ri di)
+            (tried-tight m mem after L c (placeBelow m p i c) hc (k .0) T′
+            (I .inner c (placeBelow m p i c) (placeBelow m p i c) 0 (omega arith) hc (k .0) (k .0) (rest (subst⁻¹ (λ (v : ℕ). holds m c v ≡ true) (k .1) (ri .is-held)))));
+        keeps = λ q l hq hl tight. tried-keeps m mem after L c (placeBelow m p i c) hc (k .0) T′ q l hq hl tight;
+      }
 
 -- ---- row after row
 
@@ -119,9 +103,6 @@ short-lower f q hq h i j w hi hj walk = omega (arith, f .less q i j (omega arith
 
 module _ (m : Map) (mem one two : List ℕ) (L : Laid m mem) (p : ℕ) (hp : p < partCount m) (S : Short m p mem) (I : Inside m 0 two)
     (A : Agreed m 0 p (sizeOf m p) mem one) (E : Entered m p (sizeOf m p) one two) (c : ℕ) (hc : List·Memᴰ c (children m p)) where
-  T : ℕ → ℕ → ℕ
-  T a b = entry m two c (rowOfVertex m c a) (rowOfVertex m c b)
-
   later : (c < partCount m) × (p < c)
   later = child-later m (L .sound) p c hc
 
@@ -136,38 +117,34 @@ module _ (m : Map) (mem one two : List ℕ) (L : Laid m mem) (p : ℕ) (hp : p <
   gate-place : (g : ℕ) → boundary m c g ≡ true → placeBelow m p (rowOfVertex m p g) c ≡ rowOfVertex m c g
   gate-place g b = ap (λ (v : ℕ). placeIn v (rowVertices m c)) (gate-row g b .1)
 
-  between : (g h w : ℕ) → boundary m c g ≡ true → boundary m c h ≡ true → Walk m g h w → T g h ≤ w
-  unfolding T
+  between : (g h w : ℕ) → boundary m c g ≡ true → boundary m c h ≡ true → Walk m g h w → byVertices m c two g h ≤ w
   between g h w bg bh walk =
       let i = rowOfVertex m p g in
       let j = rowOfVertex m p h in
       let k = place-below m (L .sound) p i c (gate-row g bg .0) (gate-in g bg) in
       let l = place-below m (L .sound) p j c (gate-row h bh .0) (gate-in h bh) in
-      let there : Walk m (rowVertex m p i) (rowVertex m p j) w = subst⁻¹ (λ (v : ℕ). Walk m v (rowVertex m p j) w) (gate-row g bg .1) (subst⁻¹ (λ (v : ℕ). Walk m g v w) (gate-row h bh .1) walk) in
+      let there : Walk m (rowVertex m p i) (rowVertex m p j) w = rw (gate-row g bg .1, gate-row h bh .1) walk in
       rw (← gate-place g bg, ← gate-place h bh)
       (omega (
         arith,
         E .lower .less c (placeBelow m p i c) (placeBelow m p j c) (omega arith) (later .0) (k .0) (l .0),
-        A .down c i j (gate-row g bg .0) (gate-row h bh .0) (gate-in g bg) (gate-in h bh),
+        A .down c i j (gate-row g bg .0) (gate-row g bg .0) (gate-row h bh .0) (gate-in g bg) (gate-in h bh),
         S i j w (gate-row g bg .0) (gate-row h bh .0) there,
       ))
 
   pub child-short : Short m c two
-  unfolding T
   child-short i j w hi hj walk =
-      subst (λ (k : ℕ). entry m two c k j ≤ w) (row-again m c i hi)
-      (subst (λ (l : ℕ). entry m two c (rowOfVertex m c (rowVertex m c i)) l ≤ w) (row-again m c j hj)
-      (entered-least m (sound-net m (L .sound)) (sound-tree m (L .sound)) c T (record {
+      by-rows m c two i j hi hj
+      (entered-least m (sound-net m (L .sound)) (sound-tree m (L .sound)) c (byVertices m c two) (record {
         inner = λ a b w ha hb walk.
             let ra = vertex-row m c a ha in
             let rb = vertex-row m c b hb in
-            I .inner c (rowOfVertex m c a) (rowOfVertex m c b) w (omega arith) (later .0) (ra .0) (rb .0)
-            (subst⁻¹ (λ (v : ℕ). Inner m c v (rowVertex m c (rowOfVertex m c b)) w) (ra .1) (subst⁻¹ (λ (v : ℕ). Inner m c a v w) (rb .1) walk));
+            I .inner c (rowOfVertex m c a) (rowOfVertex m c b) w (omega arith) (later .0) (ra .0) (rb .0) (rw (ra .1, rb .1) walk);
         between = between;
         tried = λ a g b ha bg hb.
             subst (λ (k : ℕ). entry m two c (rowOfVertex m c a) (rowOfVertex m c b) ≤ entry m two c (rowOfVertex m c a) k + entry m two c k (rowOfVertex m c b)) (gate-place g bg)
             (E .tight (rowOfVertex m p g) c (gate-row g bg .0) (gate-in g bg) (rowOfVertex m c a) (rowOfVertex m c b) (vertex-row m c a ha .0) (vertex-row m c b hb .0));
-      }) (rowVertex m c i) (rowVertex m c j) w (row-is m c i hi) (row-is m c j hj) walk))
+      }) (rowVertex m c i) (rowVertex m c j) w (row-is m c i hi) (row-is m c j hj) walk)
 
 pub descended-step : (mem one two : List ℕ) (p : ℕ) →
     ((m : Map) (low : ℕ) → Laid m mem → low ≤ p → p < partCount m → Agreed m low p (sizeOf m p) mem one) →
@@ -225,7 +202,7 @@ descent-begins m start mem L R = record {
   short = λ q hq when i j w hi hj walk. ⊎-elim
       (λ root. R .inside .inner q i j w (omega arith) hq hi hj
       (subst⁻¹ (λ (x : ℕ). Inner m x (rowVertex m q i) (rowVertex m q j) w) root
-      (walk-inner m (sound-net m (L .sound)) 0 (root-holds m (sound-tree m (L .sound))) walk)))
+      (walk-inner (sound-net m (L .sound)) (root-holds m (sound-tree m (L .sound))) walk)))
       (λ below. absurd (omega arith))
       when;
 }

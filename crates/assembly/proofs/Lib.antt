@@ -3,6 +3,7 @@ pub mod Places
 pub mod Lowering
 pub mod Trying
 pub mod Below
+pub mod Shown
 pub mod Pairs
 pub mod Range
 pub mod Roads

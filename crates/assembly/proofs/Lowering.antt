@@ -1,21 +1,20 @@
 -- One word of a table lowered, and two words leveled.
 -- Assumes nothing.
-use mathlib.Core.Path.{_≡_, refl, sym, ap, _∙_, subst, subst⁻¹}
-use mathlib.Core.Logic.{_⊎_, inl, inr, ⊎-elim, _≢_}
+use mathlib.Core.Path.{_≡_, refl, ap, _∙_, subst⁻¹}
+use mathlib.Core.Logic.{⊎-elim}
 use mathlib.Core.List.{List}
 use Prim.Native.Nat.{ℕ, _+_, _*_, _≤_, _<_, min}
 use native.Mathlib.Decide.{ℕ-discrete}
 use native.Mathlib.Omega.{arith}
-use lib.ListN.{length, getD, set, length-set}
+use lib.ListN.{length, getD, length-set}
 use lib.Seq.{getD-set-same, getD-set-other}
-use Rattle.words.specs.Lists.{word}
 use Rattle.roads.specs.Map.{Map, partCount}
 use Rattle.roads.specs.Dist.{dist}
-use Rattle.parts.specs.Size.{sizeOf, need, rowCount}
-use Rattle.image.specs.Places.{tablesAt, rowsAt, tableOf}
+use Rattle.parts.specs.Size.{sizeOf, need}
+use Rattle.image.specs.Places.{tableOf}
 use Rattle.image.specs.Records.{rowVertex}
 use Rattle.image.proofs.Records.{rows-end}
-use Rattle.assembly.specs.Laid.{Laid, entry, Outside}
+use Rattle.assembly.specs.Laid.{Laid, entry}
 use Rattle.assembly.specs.Lower.{lowered, Honest, Lower, Inside}
 use Rattle.assembly.proofs.Places.{table-from, table-to, entry-to, one-word}
 

@@ -1,31 +1,26 @@
 -- The words of two vertices in a part and in a child that holds both, leveled.
 -- Assumes nothing.
-use mathlib.Core.Path.{_≡_, refl, sym, ap, _∙_, subst, subst⁻¹}
-use mathlib.Core.Logic.{inl, inr, _≢_}
+use mathlib.Core.Path.{_≡_, sym, _∙_, subst, subst⁻¹}
+use mathlib.Core.Logic.{_⊎_, inl, inr, _≢_}
 use mathlib.Core.List.{List}
-use Prim.Native.Nat.{ℕ, _+_, _*_, _≤_, _<_, min}
+use Prim.Native.Nat.{ℕ, _+_, _*_, _≤_, _<_}
 use native.Mathlib.Nat.{eq-or-lt-of-le}
-use native.Mathlib.Decide.{ℕ-discrete}
 use native.Mathlib.Omega.{arith}
 use lib.ListN.{length, getD, length-set}
 use Rattle.words.specs.Lists.{word}
 use Rattle.roads.specs.Map.{Map, partCount}
 use Rattle.roads.specs.Dist.{dist}
-use Rattle.parts.specs.Size.{sizeOf, need}
+use Rattle.parts.specs.Size.{sizeOf}
 use Rattle.parts.proofs.Down.{children-says}
-use Rattle.image.specs.Places.{tableOf, firstRowOf}
-use Rattle.image.specs.Image.{partBelow, rowBelow}
+use Rattle.image.specs.Places.{tableOf}
 use Rattle.image.specs.Records.{rowVertex}
 use Rattle.assembly.specs.Laid.{Laid, entry}
 use Rattle.assembly.specs.Lower.{lowered, leveled, Honest, Lower}
-use Rattle.assembly.specs.Steps.{RowIn, placeBelow, AgreedPair, AgreedRow, Agreed, Lines}
-use Rattle.assembly.proofs.Places.{row-real, laid-kept}
+use Rattle.assembly.specs.Steps.{RowIn, placeBelow, RowBelow, AgreedFor, AgreedPair, AgreedRow, Agreed, Lines}
+use Rattle.assembly.proofs.Places.{laid-kept}
 use Rattle.assembly.proofs.Lowering.{lower-none, lower-then, lower-one, lower-one-at}
-use Rattle.assembly.proofs.Below.{child-later, row-one, part-below, part-below-says, place-below, row-below}
-
--- a vertex fits beside a part in one word
-pub vertex-small : (m : Map) (mem : List ℕ) → Laid m mem → (p i : ℕ) → i < sizeOf m p → rowVertex m p i < 65536
-vertex-small m mem L p i hi = omega (arith, row-real m p i hi, L .sound .vertices .1)
+use Rattle.assembly.proofs.Below.{child-later, row-one, part-below, place-below}
+use Rattle.assembly.proofs.Shown.{shown-part, shown-in, shown-place}
 
 module _ (m : Map) (mem : List ℕ) (L : Laid m mem) (low p i j c : ℕ) (hl : low ≤ p) (hp : p < partCount m) (hi : i < sizeOf m p) (hj : j < sizeOf m p)
     (ri : RowIn m p i c) (rj : RowIn m p j c) where
@@ -65,14 +60,46 @@ module _ (m : Map) (mem : List ℕ) (L : Laid m mem) (low p i j c : ℕ) (hl : l
   leveled-pair a b ea eb =
       rw (ea, eb) (record {
         lower = lower-then first second;
-        up = λ d di dj.
-            subst (λ (c : ℕ). entry m (leveled mem above below) p i j ≤ entry m mem c (placeBelow m p i c) (placeBelow m p j c)) (row-one m (L .sound) p i c d ri di)
-            (omega (arith, second .less p i j hl hp hi hj, lower-one-at m mem (L .fits) p i j hp hi hj (word mem below)));
-        down = λ d di dj.
-            subst (λ (c : ℕ). entry m (leveled mem above below) c (placeBelow m p i c) (placeBelow m p j c) ≤ entry m mem p i j) (row-one m (L .sound) p i c d ri di)
+        up = λ d k l of _ _ dk _.
+            rw (of .0, of .1, row-in-one d k (of .0) dk) (omega (arith, second .less p i j hl hp hi hj, lower-one-at m mem (L .fits) p i j hp hi hj (word mem below)));
+        down = λ d k l of _ _ dk _.
+            rw (of .0, of .1, row-in-one d k (of .0) dk)
             (lower-one-at m (lowered mem above (word mem below)) (omega (arith, L .fits, first .sized)) c (placeBelow m p i c) (placeBelow m p j c)
             (later .0) (place-below m (L .sound) p i c hi ri .0) (place-below m (L .sound) p j c hj rj .0) (word mem above));
       })
+    where
+      row-in-one : (d k : ℕ) → k ≡ i → RowIn m p k d → d ≡ c
+      row-in-one d k same dk = sym (row-one m (L .sound) p i c d ri (subst (λ (n : ℕ). RowIn m p n d) same dk))
+
+-- ---- nothing done, and one thing after the other
+
+module _ {m : Map} {low p : ℕ} {Of : ℕ → ℕ → Type 0} where
+  pub agreed-none : {mem : List ℕ} → ((c i j : ℕ) → Of i j → i < sizeOf m p → j < sizeOf m p → RowIn m p i c → RowIn m p j c → ⊥) → AgreedFor m low p Of mem mem
+  agreed-none {mem} never = record {
+    lower = lower-none m low mem;
+    up = λ c i j of hi hj ri rj. absurd (never c i j of hi hj ri rj);
+    down = λ c i j of hi hj ri rj. absurd (never c i j of hi hj ri rj);
+  }
+
+  pub agreed-then : {First Then : ℕ → ℕ → Type 0} {start before after : List ℕ} → Laid m start → low ≤ p → p < partCount m → ((i j : ℕ) → Of i j → j < sizeOf m p → First i j ⊎ Then i j) →
+      AgreedFor m low p First start before → AgreedFor m low p Then before after → AgreedFor m low p Of start after
+  agreed-then {start} {before} {after} L hl hp which A B = record {
+    lower = lower-then (A .lower) (B .lower);
+    up = λ c i j of hi hj ri rj. elim (which i j of hj) [
+      | inl first ↦ omega (arith, B .lower .less p i j hl hp hi hj, A .up c i j first hi hj ri rj)
+      | inr last ↦ omega (arith, B .up c i j last hi hj ri rj, below (A .lower) c i j hi hj ri rj)
+    ];
+    down = λ c i j of hi hj ri rj. elim (which i j of hj) [
+      | inl first ↦ omega (arith, below (B .lower) c i j hi hj ri rj, A .down c i j first hi hj ri rj)
+      | inr last ↦ omega (arith, B .down c i j last hi hj ri rj, A .lower .less p i j hl hp hi hj)
+    ];
+  }
+    where
+      below : {one two : List ℕ} → Lower m low one two → (c i j : ℕ) → i < sizeOf m p → j < sizeOf m p → RowIn m p i c → RowIn m p j c
+          → entry m two c (placeBelow m p i c) (placeBelow m p j c) ≤ entry m one c (placeBelow m p i c) (placeBelow m p j c)
+      below f c i j hi hj ri rj =
+          let later = child-later m (L .sound) p c (ri .is-child) in
+          f .less c (placeBelow m p i c) (placeBelow m p j c) (omega (arith, later .1)) (later .0) (place-below m (L .sound) p i c hi ri .0) (place-below m (L .sound) p j c hj rj .0)
 
 -- ---- as the words of the memory show it
 
@@ -81,16 +108,12 @@ pub pair-apart : (mem : List ℕ) {j c mark part first line firstBelow lineBelow
     ((v d : ℕ) → v < 65536 → mark ≡ v + 65536 * d → part ≡ d) → (part ≡ c → ⊥) →
     (m : Map) (low p i size : ℕ) → Laid m mem → low ≤ p → p < partCount m → i < sizeOf m p → j < sizeOf m p → Lines m p i c size first line firstBelow lineBelow →
     AgreedPair m low p i j mem mem
-pair-apart mem {j} {c} {mark} {part} {first} shown reads other m low p i size L hl hp hi hj at = record {
-  lower = lower-none m low mem;
-  up = λ d di dj. absurd (apart d di dj);
-  down = λ d di dj. absurd (apart d di dj);
-}
+pair-apart mem {j} {c} {mark} {part} {first} shown reads other m low p i size L hl hp hi hj at =
+    agreed-none (λ d k l of _ _ dk dl. apart d (subst (λ (n : ℕ). RowIn m p n d) (of .0) dk) (subst (λ (n : ℕ). RowIn m p n d) (of .1) dl))
   where
     apart : (d : ℕ) → RowIn m p i d → RowIn m p j d → ⊥
     apart d di dj =
-        other (reads (rowVertex m p j) (partBelow m p (rowVertex m p j)) (vertex-small m mem L p j hj)
-        (shown ∙ ap (λ (f : ℕ). getD mem (f + 4 * j + 2) 0) (at .first-is) ∙ L .row p j hp hj .mark)
+        other (shown-part m mem L p j hp hj (at .first-is ∙ sym (L .part p hp .first-row)) shown reads
         ∙ part-below m (L .sound) p j d hj dj ∙ sym (row-one m (L .sound) p i c d (at .row-in) di))
 
 -- row j stands in the same child
@@ -103,91 +126,22 @@ pair-together mem {j} {c} {mark} {part} {row} {k} {first} {line} {firstBelow} {l
     rw after-is (leveled-pair m mem L low p i j c hl hp hi hj (at .row-in) in-c (line + column) (lineBelow + place)
     (omega (arith, at .line-is)) (omega (arith, at .line-below-is, found)))
   where
-    is-c : partBelow m p (rowVertex m p j) ≡ c
-    is-c =
-        sym (reads (rowVertex m p j) (partBelow m p (rowVertex m p j)) (vertex-small m mem L p j hj)
-        (shown ∙ ap (λ (f : ℕ). getD mem (f + 4 * j + 2) 0) (at .first-is) ∙ L .row p j hp hj .mark)) ∙ same
+    first-is : first ≡ getD mem (64 + 8 * p + 2) 0
+    first-is = at .first-is ∙ sym (L .part p hp .first-row)
+
+    reads-c : (v d : ℕ) → v < 65536 → mark ≡ v + 65536 * d → c ≡ d
+    reads-c v d h e = sym same ∙ reads v d h e
+
+    some : c ≢ 0
+    some = children-says m p c (at .row-in .is-child) .2
 
     in-c : RowIn m p j c
-    in-c = subst (RowIn m p j) is-c (part-below-says m (L .sound) p j hj (λ none. children-says m p c (at .row-in .is-child) .2 (sym is-c ∙ none)))
+    in-c = shown-in m mem L p j hp hj first-is shown reads-c some
 
     found : k ≡ placeBelow m p j c
     found =
-        finds (placeBelow m p j c)
-        (points ∙ ap (λ (f : ℕ). getD mem (f + 4 * j + 3) 0) (at .first-is) ∙ L .row p j hp hj .below ∙ row-below m (L .sound) p j c hj in-c
-        ∙ ap (λ (f : ℕ). f + 4 * placeBelow m p j c) (sym (at .first-below-is)))
-
--- ---- row after row
-
-pub row-first : (m : Map) (low p i : ℕ) (mem : List ℕ) → AgreedRow m low p i 0 mem mem
-row-first m low p i mem = record { lower = lower-none m low mem; up = λ c j h. absurd (omega arith); down = λ c j h. absurd (omega arith) }
-
-module _ {m : Map} {low p i n : ℕ} {start before after : List ℕ} (hl : low ≤ p) (hp : p < partCount m) (hi : i < sizeOf m p) (hn : n < sizeOf m p) (L : Laid m start) where
-  pub row-step : AgreedRow m low p i n start before → AgreedPair m low p i n before after → AgreedRow m low p i (n + 1) start after
-  row-step A B = record {
-    lower = lower-then (A .lower) (B .lower);
-    up = λ c j hj ri rj. elim (eq-or-lt-of-le hj) [
-      | inl e ↦
-          let same : j ≡ n = omega arith in
-          up-new c j same ri rj
-      | inr less ↦ omega (arith, B .lower .less p i j hl hp hi (omega (arith, hn)), A .up c j (omega arith) ri rj)
-    ];
-    down = λ c j hj ri rj. elim (eq-or-lt-of-le hj) [
-      | inl e ↦
-          let same : j ≡ n = omega arith in
-          down-new c j same ri rj
-      | inr less ↦
-          let later = child-later m (L .sound) p c (ri .is-child) in
-          let kj = place-below m (L .sound) p j c (omega (arith, hn)) rj in
-          omega (arith, B .lower .less c (placeBelow m p i c) (placeBelow m p j c) (omega (arith, later .1)) (later .0) (place-below m (L .sound) p i c hi ri .0) (kj .0), A .down c j (omega arith) ri rj)
-    ];
-  }
-    where
-      up-new : (c j : ℕ) → j ≡ n → RowIn m p i c → RowIn m p j c → entry m after p i j ≤ entry m start c (placeBelow m p i c) (placeBelow m p j c)
-      up-new c j same =
-          subst⁻¹ (λ (k : ℕ). RowIn m p i c → RowIn m p k c → entry m after p i k ≤ entry m start c (placeBelow m p i c) (placeBelow m p k c)) same (λ ri rj.
-          let later = child-later m (L .sound) p c (ri .is-child) in
-          omega (arith, B .up c ri rj, A .lower .less c (placeBelow m p i c) (placeBelow m p n c) (omega (arith, later .1)) (later .0) (place-below m (L .sound) p i c hi ri .0) (place-below m (L .sound) p n c hn rj .0)))
-
-      down-new : (c j : ℕ) → j ≡ n → RowIn m p i c → RowIn m p j c → entry m after c (placeBelow m p i c) (placeBelow m p j c) ≤ entry m start p i j
-      down-new c j same =
-          subst⁻¹ (λ (k : ℕ). RowIn m p i c → RowIn m p k c → entry m after c (placeBelow m p i c) (placeBelow m p k c) ≤ entry m start p i k) same (λ ri rj.
-          omega (arith, B .down c ri rj, A .lower .less p i n hl hp hi hn))
-
-pub agreed-first : (m : Map) (low p : ℕ) (mem : List ℕ) → Agreed m low p 0 mem mem
-agreed-first m low p mem = record { lower = lower-none m low mem; up = λ c i j h. absurd (omega arith); down = λ c i j h. absurd (omega arith) }
-
-module _ {m : Map} {low p n : ℕ} {start before after : List ℕ} (hl : low ≤ p) (hp : p < partCount m) (hn : n < sizeOf m p) (L : Laid m start) where
-  pub agreed-step : Agreed m low p n start before → AgreedRow m low p n (sizeOf m p) before after → Agreed m low p (n + 1) start after
-  agreed-step A B = record {
-    lower = lower-then (A .lower) (B .lower);
-    up = λ c i j hi hj ri rj. elim (eq-or-lt-of-le hi) [
-      | inl e ↦
-          let same : i ≡ n = omega arith in
-          up-new c i j same hj ri rj
-      | inr less ↦ omega (arith, B .lower .less p i j hl hp (omega (arith, hn)) hj, A .up c i j (omega arith) hj ri rj)
-    ];
-    down = λ c i j hi hj ri rj. elim (eq-or-lt-of-le hi) [
-      | inl e ↦
-          let same : i ≡ n = omega arith in
-          down-new c i j same hj ri rj
-      | inr less ↦
-          let later = child-later m (L .sound) p c (ri .is-child) in
-          let ki = place-below m (L .sound) p i c (omega (arith, hn)) ri in
-          omega (arith, B .lower .less c (placeBelow m p i c) (placeBelow m p j c) (omega (arith, later .1)) (later .0) (ki .0) (place-below m (L .sound) p j c hj rj .0), A .down c i j (omega arith) hj ri rj)
-    ];
-  }
-    where
-      up-new : (c i j : ℕ) → i ≡ n → j < sizeOf m p → RowIn m p i c → RowIn m p j c → entry m after p i j ≤ entry m start c (placeBelow m p i c) (placeBelow m p j c)
-      up-new c i j same hj =
-          subst⁻¹ (λ (k : ℕ). RowIn m p k c → RowIn m p j c → entry m after p k j ≤ entry m start c (placeBelow m p k c) (placeBelow m p j c)) same (λ ri rj.
-          let later = child-later m (L .sound) p c (ri .is-child) in
-          omega (arith, B .up c j hj ri rj, A .lower .less c (placeBelow m p n c) (placeBelow m p j c) (omega (arith, later .1)) (later .0) (place-below m (L .sound) p n c hn ri .0) (place-below m (L .sound) p j c hj rj .0)))
-
-      down-new : (c i j : ℕ) → i ≡ n → j < sizeOf m p → RowIn m p i c → RowIn m p j c → entry m after c (placeBelow m p i c) (placeBelow m p j c) ≤ entry m start p i j
-      down-new c i j same hj =
-          subst⁻¹ (λ (k : ℕ). RowIn m p k c → RowIn m p j c → entry m after c (placeBelow m p k c) (placeBelow m p j c) ≤ entry m start p k j) same (λ ri rj.
-          omega (arith, B .down c j hj ri rj, A .lower .less p n j hl hp hn hj))
+        shown-place m mem L p j hp hj first-is shown reads-c some
+        (at .first-below-is ∙ sym (L .part c (child-later m (L .sound) p c (at .row-in .is-child) .0) .first-row)) points finds
 
 -- ---- turns of the loops
 
@@ -199,13 +153,17 @@ module _ (start : List ℕ) (size first line c firstBelow lineBelow : ℕ) where
   abbrev pub RowTo : ℕ → List ℕ → Type 0
   RowTo j mem = (m : Map) (low p i : ℕ) → Laid m start → low ≤ p → p < partCount m → i < sizeOf m p → Lines m p i c size first line firstBelow lineBelow → AgreedRow m low p i j start mem
 
+  pub row-first : RowTo 0 start
+  row-first m low p i L hl hp hi at = agreed-none (λ c k l of _ _ _ _. absurd (omega (arith, of .1)))
+
   pub row-turn : (before after : List ℕ) (j : ℕ) → j < size → RowTo j before →
       ((m : Map) (low p i size : ℕ) → Laid m before → low ≤ p → p < partCount m → i < sizeOf m p → j < sizeOf m p → Lines m p i c size first line firstBelow lineBelow → AgreedPair m low p i j before after) →
       RowTo (j + 1) after
   row-turn before after j hj done pair m low p i L hl hp hi at =
       let A = done m low p i L hl hp hi at in
       let fits : j < sizeOf m p = omega (arith, at .size-is) in
-      row-step hl hp hi fits L A (pair m low p i size (laid-kept m start before (A .lower .sized) (A .lower .outside) L) hl hp hi fits at)
+      agreed-then L hl hp (λ k l of _. elim (eq-or-lt-of-le (of .1)) [ inl now ↦ inr (of .0, omega arith) | inr less ↦ inl (of .0, omega arith) ]) A
+      (pair m low p i size (laid-kept m start before (A .lower .sized) (A .lower .outside) L) hl hp hi fits at)
 
   pub row-done : (mem : List ℕ) (j : ℕ) → j ≤ size → size ≤ j → RowTo j mem → (m : Map) (low p i : ℕ) → Laid m start → low ≤ p → p < partCount m → i < sizeOf m p →
       Lines m p i c size first line firstBelow lineBelow → AgreedRow m low p i (sizeOf m p) start mem
@@ -216,69 +174,38 @@ module _ (start : List ℕ) (p : ℕ) where
   abbrev pub RowsTo : ℕ → List ℕ → Type 0
   RowsTo i mem = (m : Map) (low : ℕ) → Laid m start → low ≤ p → p < partCount m → Agreed m low p i start mem
 
+  pub rows-first : RowsTo 0 start
+  rows-first m low L hl hp = agreed-none (λ c k l of _ _ _ _. absurd (omega arith))
+
   pub rows-turn : {size : ℕ} (before after : List ℕ) (i : ℕ) → i < size → size ≡ getD start (64 + 8 * p + 1) 0 → RowsTo i before →
       ((m : Map) (low : ℕ) → Laid m before → low ≤ p → p < partCount m → i < sizeOf m p → AgreedRow m low p i (sizeOf m p) before after) → RowsTo (i + 1) after
   rows-turn before after i hi shown done row m low L hl hp =
       let A = done m low L hl hp in
       let fits : i < sizeOf m p = omega (arith, L .part p hp .size) in
-      agreed-step hl hp fits L A (row m low (laid-kept m start before (A .lower .sized) (A .lower .outside) L) hl hp fits)
+      agreed-then L hl hp (λ k l hk hl. elim (eq-or-lt-of-le hk) [ inl now ↦ inr (omega arith, hl) | inr less ↦ inl (omega arith) ]) A
+      (row m low (laid-kept m start before (A .lower .sized) (A .lower .outside) L) hl hp fits)
 
   pub rows-done : {size : ℕ} (mem : List ℕ) (i : ℕ) → i ≤ size → size ≤ i → size ≡ getD start (64 + 8 * p + 1) 0 → RowsTo i mem →
       (m : Map) (low : ℕ) → Laid m start → low ≤ p → p < partCount m → Agreed m low p (sizeOf m p) start mem
   rows-done mem i within all shown done m low L hl hp =
       subst (λ (n : ℕ). Agreed m low p n start mem) (omega (arith, L .part p hp .size)) (done m low L hl hp)
 
--- ---- row i as the words of the memory show it
+-- ---- row i as its words tell
 
--- no child holds it: nothing is to be done
-pub row-alone : (mem : List ℕ) {p i c first mark : ℕ} → first ≡ getD mem (64 + 8 * p + 2) 0 → mark ≡ getD mem (first + 4 * i + 2) 0 →
-    ((v d : ℕ) → v < 65536 → mark ≡ v + 65536 * d → c ≡ d) → c ≡ 0 →
-    (m : Map) (low : ℕ) → Laid m mem → low ≤ p → p < partCount m → i < sizeOf m p → AgreedRow m low p i (sizeOf m p) mem mem
-row-alone mem {p} {i} {c} {first} first-is shown reads none m low L hl hp hi = record {
-  lower = lower-none m low mem;
-  up = λ d j _ di _. absurd (nowhere d di);
-  down = λ d j _ di _. absurd (nowhere d di);
-}
-  where
-    nowhere : (d : ℕ) → RowIn m p i d → ⊥
-    nowhere d di =
-        children-says m p d (di .is-child) .2 (sym (part-below m (L .sound) p i d hi di)
-        ∙ sym (reads (rowVertex m p i) (partBelow m p (rowVertex m p i)) (vertex-small m mem L p i hi)
-        (shown ∙ ap (λ (f : ℕ). getD mem (f + 4 * i + 2) 0) (first-is ∙ L .part p hp .first-row) ∙ L .row p i hp hi .mark)) ∙ none)
+module _ {m : Map} {p i c size first table row : ℕ} (below : RowBelow m p i c size first table row) where
+  -- no child holds it: nothing is to be done
+  pub row-alone : c ≡ 0 → (low : ℕ) (mem : List ℕ) → AgreedRow m low p i (sizeOf m p) mem mem
+  row-alone none low mem = agreed-none (λ d k l of _ _ dk _. below .alone none d (subst (λ (n : ℕ). RowIn m p n d) (of .0) dk))
 
--- the child that holds it, and its row there
-module _ (mem : List ℕ) {p i c first mark row firstBelow k : ℕ} (first-is : first ≡ getD mem (64 + 8 * p + 2) 0) (shown : mark ≡ getD mem (first + 4 * i + 2) 0)
-    (reads : (v d : ℕ) → v < 65536 → mark ≡ v + 65536 * d → c ≡ d) (some : c ≡ 0 → ⊥)
-    (below-is : firstBelow ≡ getD mem (64 + 8 * c + 2) 0) (points : row ≡ getD mem (first + 4 * i + 3) 0) (finds : (n : ℕ) → row ≡ firstBelow + 4 * n → k ≡ n)
-    (m : Map) (L : Laid m mem) (hp : p < partCount m) (hi : i < sizeOf m p) where
-  is-c : c ≡ partBelow m p (rowVertex m p i)
-  is-c =
-      reads (rowVertex m p i) (partBelow m p (rowVertex m p i)) (vertex-small m mem L p i hi)
-      (shown ∙ ap (λ (f : ℕ). getD mem (f + 4 * i + 2) 0) (first-is ∙ L .part p hp .first-row) ∙ L .row p i hp hi .mark)
-
-  pub row-held-in : RowIn m p i c
-  row-held-in = subst⁻¹ (RowIn m p i) is-c (part-below-says m (L .sound) p i hi (λ none. some (is-c ∙ none)))
-
-  pub row-child : (c < partCount m) × (p < c)
-  row-child = child-later m (L .sound) p c (row-held-in .is-child)
-
-  pub row-place : k ≡ placeBelow m p i c
-  row-place =
-      finds (placeBelow m p i c)
-      (points ∙ ap (λ (f : ℕ). getD mem (f + 4 * i + 3) 0) (first-is ∙ L .part p hp .first-row) ∙ L .row p i hp hi .below ∙ row-below m (L .sound) p i c hi row-held-in
-      ∙ ap (λ (f : ℕ). f + 4 * placeBelow m p i c) (sym (below-is ∙ L .part c (row-child .0) .first-row)))
-
-  pub row-lines : {size table sizeBelow tableBelow line lineBelow : ℕ} → size ≡ getD mem (64 + 8 * p + 1) 0 → table ≡ getD mem (64 + 8 * p + 3) 0 →
-      sizeBelow ≡ getD mem (64 + 8 * c + 1) 0 → tableBelow ≡ getD mem (64 + 8 * c + 3) 0 → line ≡ table + size * i → lineBelow ≡ tableBelow + sizeBelow * k →
-      Lines m p i c size first line firstBelow lineBelow
-  row-lines size-is table-is size-below-is table-below-is line-is line-below-is =
-      let own = L .part p hp in
-      let child = L .part c (row-child .0) in
-      record {
-        row-in = row-held-in;
-        size-is = size-is ∙ own .size;
-        first-is = first-is ∙ own .first-row;
-        line-is = line-is ∙ rw (table-is ∙ own .table, size-is ∙ own .size);
-        first-below-is = below-is ∙ child .first-row;
-        line-below-is = line-below-is ∙ rw (table-below-is ∙ child .table, size-below-is ∙ child .size, row-place);
-      }
+  -- where its words and those of its row in the child stand
+  pub row-lines : c ≢ 0 → {mem : List ℕ} → Laid m mem → p < partCount m → {own ownFirst ownTable line lineBelow : ℕ} →
+      own ≡ getD mem (64 + 8 * p + 1) 0 → ownFirst ≡ getD mem (64 + 8 * p + 2) 0 → ownTable ≡ getD mem (64 + 8 * p + 3) 0 →
+      line ≡ ownTable + own * i → lineBelow ≡ table + size * row → Lines m p i c own ownFirst line first lineBelow
+  row-lines some L hp size-is first-is table-is line-is line-below-is = record {
+    row-in = below .row-in some;
+    size-is = size-is ∙ L .part p hp .size;
+    first-is = first-is ∙ L .part p hp .first-row;
+    line-is = line-is ∙ rw (table-is ∙ L .part p hp .table, size-is ∙ L .part p hp .size);
+    first-below-is = below .first-is some;
+    line-below-is = line-below-is ∙ rw (below .table-is some, below .size-is some, below .row-is some);
+  }

@@ -1,7 +1,7 @@
 -- The roads from one vertex stand side by side, from the number that its record shows to that of the next vertex.
 -- Assumes nothing.
-use mathlib.Core.Path.{_≡_, refl, ap, _∙_, subst, subst⁻¹}
-use mathlib.Core.Logic.{_⊎_, inl, inr, ⊎-elim}
+use mathlib.Core.Path.{_≡_, refl, ap, subst, subst⁻¹}
+use mathlib.Core.Logic.{⊎-elim}
 use mathlib.Core.Bool.{Bool, true, false, cond}
 use mathlib.Core.List.{List, [], _∷_, List·Memᴰ, List·Memᴰ·head, List·Memᴰ·tail}
 use Prim.Native.Nat.{ℕ, zero, suc, _+_, _-_, _≤_, _<_}
@@ -10,9 +10,8 @@ use lib.ListN.{length, getD}
 use lib.Dec.{ltb}
 use borrow.Author.Tests.{lt-ltb, le-ltb}
 use Rattle.words.specs.Lists.{keep}
-use Rattle.words.proofs.Places.{entry-in}
 use Rattle.roads.specs.Map.{Road, Map, roadCount, noRoad, roadAt}
-use Rattle.maps.specs.Sound.{Sound, RoadBefore}
+use Rattle.maps.specs.Sound.{Sound}
 use Rattle.image.specs.Image.{firstRoadFrom}
 
 -- how many roads start below v

@@ -1,7 +1,7 @@
 -- The table of a part, right inside the part: blanked, lowered by the roads and the children's tables, and closed.
 -- Assumes nothing.
 use mathlib.Core.Path.{_≡_, refl, sym, ap, _∙_, subst, subst⁻¹}
-use mathlib.Core.Logic.{_⊎_, inl, inr, ⊎-elim}
+use mathlib.Core.Logic.{inl, inr, ⊎-elim}
 use mathlib.Core.Bool.{true}
 use mathlib.Core.List.{List, List·Memᴰ}
 use Prim.Native.Nat.{ℕ, suc, _+_, _*_, _≤_, _<_}
@@ -15,6 +15,7 @@ use Rattle.words.proofs.Lists.{place-in}
 use Rattle.words.proofs.Places.{place-of-entry, numbered}
 use Rattle.roads.specs.Map.{Road, Map, partCount, noRoad}
 use Rattle.roads.specs.Dist.{dist}
+use Rattle.roads.proofs.Inner.{inner-start, inner-end}
 use Rattle.roads.proofs.Laws.{dist-most, dist-self}
 use Rattle.parts.specs.Tree.{holds, children}
 use Rattle.parts.specs.Size.{rowVertices, sizeOf}
@@ -24,12 +25,11 @@ use Rattle.image.specs.Places.{tableOf}
 use Rattle.image.specs.Records.{rowVertex}
 use Rattle.image.proofs.Records.{rows-end}
 use Rattle.inner_walks.specs.Inner.{Inner}
-use Rattle.inner_walks.proofs.Inner.{inner-start, inner-end}
 use Rattle.inner_walks.proofs.Up.{closed-least}
 use Rattle.table_rows.specs.Flat.{blank, Becomes, Blanked, Tried}
 use Rattle.assembly.specs.Laid.{Laid, entry, Outside}
 use Rattle.assembly.specs.Lower.{Honest, Lower, Inside}
-use Rattle.assembly.specs.Steps.{RowIn, placeBelow, Agreed, Noted, Roads, Tight, AtHome, Closed, HaltTried, Risen}
+use Rattle.assembly.specs.Steps.{RowIn, placeBelow, Agreed, Noted, Apart, Roads, Tight, AtHome, Closed, HaltTried, Risen}
 use Rattle.assembly.proofs.Places.{table-from, tables-apart, table-to, row-is, row-real, laid-kept}
 use Rattle.assembly.proofs.Lowering.{lower-none, lower-then}
 use Rattle.assembly.proofs.Trying.{tried-lower, tried-tight, tried-keeps}
@@ -49,6 +49,13 @@ module _ (m : Map) (p : ℕ) where
   pub row-again : (i : ℕ) → i < sizeOf m p → rowOfVertex (rowVertex m p i) ≡ i
   unfolding sizeOf
   row-again i h = place-of-entry (rows-unique m p) i h
+
+  -- a word of the table of p, by the vertices of its row and its column
+  abbrev pub byVertices : List ℕ → ℕ → ℕ → ℕ
+  byVertices mem a b = entry m mem p (rowOfVertex a) (rowOfVertex b)
+
+  pub by-rows : (mem : List ℕ) (i j : ℕ) {w : ℕ} → i < sizeOf m p → j < sizeOf m p → byVertices mem (rowVertex m p i) (rowVertex m p j) ≤ w → entry m mem p i j ≤ w
+  by-rows mem i j hi hj least = rw (row-again i hi, row-again j hj) at least
 
 -- ---- every row vertex tried
 
@@ -144,30 +151,34 @@ module _ (m : Map) (before after : List ℕ) (L : Laid m before) (p : ℕ) (hp :
 
 module _ (m : Map) (mem one two three four : List ℕ) (L : Laid m mem) (p : ℕ) (hp : p < partCount m) (I : Inside m (suc p) mem)
     (B : Blanked (tableOf m p) (sizeOf m p) mem one) (marks marked : List ℕ) (R : Roads m p (sizeOf m p) one two marks marked) (A : Agreed m p p (sizeOf m p) two three) (C : Closed m p (sizeOf m p) marked three four) where
-  T : ℕ → ℕ → ℕ
-  T a b = entry m four p (rowOfVertex m p a) (rowOfVertex m p b)
-
   later : Lower m p one four
   later = lower-then (R .lower) (lower-then (A .lower) (C .lower))
 
-  -- of the roads
-  road-least : (r : Road) → List·Memᴰ r (m .roads) → List·Memᴰ (r .from) (rowVertices m p) → List·Memᴰ (r .to) (rowVertices m p) → T (r .from) (r .to) ≤ r .weight
-  unfolding T
-  road-least r h hf ht =
+  -- a road between two row vertices
+  road-taken : (r : Road) → List·Memᴰ r (m .roads) → List·Memᴰ (r .from) (rowVertices m p) → List·Memᴰ (r .to) (rowVertices m p)
+      → (entry m two p (rowOfVertex m p (r .from)) (rowOfVertex m p (r .to)) ≤ r .weight)
+      × (Apart m p (rowOfVertex m p (r .from)) (rowOfVertex m p (r .to)) → (word marked (rowOfVertex m p (r .from)) ≡ 1) × (word marked (rowOfVertex m p (r .to)) ≡ 1))
+  road-taken r h hf ht =
       let n = numbered noRoad (m .roads) r h in
+      let f = vertex-row m p (r .from) hf in
+      let t = vertex-row m p (r .to) ht in
+      let taken = R .road (n .0) (rowOfVertex m p (r .from)) (rowOfVertex m p (r .to)) (f .0) (n .1) (f .0) (t .0) (ap (λ (x : Road). x .from) (n .2) ∙ sym (f .1)) (ap (λ (x : Road). x .to) (n .2) ∙ sym (t .1)) in
+      (omega (arith, taken .0, ap (λ (x : Road). x .weight) (n .2)), taken .1)
+
+  -- of the roads
+  road-least : (r : Road) → List·Memᴰ r (m .roads) → List·Memᴰ (r .from) (rowVertices m p) → List·Memᴰ (r .to) (rowVertices m p) → byVertices m p four (r .from) (r .to) ≤ r .weight
+  road-least r h hf ht =
       let f = vertex-row m p (r .from) hf in
       let t = vertex-row m p (r .to) ht in
       omega (
         arith,
-        R .road (n .0) (rowOfVertex m p (r .from)) (rowOfVertex m p (r .to)) (f .0) (n .1) (t .0) (ap (λ (x : Road). x .from) (n .2) ∙ sym (f .1)) (ap (λ (x : Road). x .to) (n .2) ∙ sym (t .1)),
-        ap (λ (x : Road). x .weight) (n .2),
+        road-taken r h hf ht .0,
         A .lower .less p (rowOfVertex m p (r .from)) (rowOfVertex m p (r .to)) (omega arith) hp (f .0) (t .0),
         C .lower .less p (rowOfVertex m p (r .from)) (rowOfVertex m p (r .to)) (omega arith) hp (f .0) (t .0),
       )
 
   -- of the children
-  child-least : (c a b w : ℕ) → List·Memᴰ c (children m p) → List·Memᴰ a (rowVertices m p) → List·Memᴰ b (rowVertices m p) → Inner m c a b w → T a b ≤ w
-  unfolding T
+  child-least : (c a b w : ℕ) → List·Memᴰ c (children m p) → List·Memᴰ a (rowVertices m p) → List·Memᴰ b (rowVertices m p) → Inner m c a b w → byVertices m p four a b ≤ w
   child-least c a b w hc ha hb walk =
       let ra = vertex-row m p a ha in
       let rb = vertex-row m p b hb in
@@ -178,35 +189,31 @@ module _ (m : Map) (mem one two three four : List ℕ) (L : Laid m mem) (p : ℕ
       let k = place-below m (L .sound) p i c (ra .0) ia in
       let l = place-below m (L .sound) p j c (rb .0) jb in
       let low = child-later m (L .sound) p c hc in
-      let known : Inner m c (rowVertex m c (placeBelow m p i c)) (rowVertex m c (placeBelow m p j c)) w =
-      subst⁻¹ (λ (v : ℕ). Inner m c v (rowVertex m c (placeBelow m p j c)) w) (k .1 ∙ ra .1) (subst⁻¹ (λ (v : ℕ). Inner m c a v w) (l .1 ∙ rb .1) walk) in
+      let known : Inner m c (rowVertex m c (placeBelow m p i c)) (rowVertex m c (placeBelow m p j c)) w = rw (k .1 ∙ ra .1, l .1 ∙ rb .1) walk in
       omega (
         arith,
         blank-inner m mem one L p hp B I c (placeBelow m p i c) (placeBelow m p j c) w (low .1) (low .0) (k .0) (l .0) known,
         R .lower .less c (placeBelow m p i c) (placeBelow m p j c) (omega (arith, low .1)) (low .0) (k .0) (l .0),
-        A .up c i j (ra .0) (rb .0) ia jb,
+        A .up c i j (ra .0) (ra .0) (rb .0) ia jb,
         C .lower .less p i j (omega arith) hp (ra .0) (rb .0),
       )
 
   own-least : (i j w : ℕ) → i < sizeOf m p → j < sizeOf m p → Inner m p (rowVertex m p i) (rowVertex m p j) w → entry m four p i j ≤ w
-  unfolding T
   own-least i j w hi hj walk =
-      subst (λ (k : ℕ). entry m four p k j ≤ w) (row-again m p i hi)
-      (subst (λ (l : ℕ). entry m four p (rowOfVertex m p (rowVertex m p i)) l ≤ w) (row-again m p j hj)
-      (closed-least m (sound-net m (L .sound)) (sound-tree m (L .sound)) p T (record {
+      by-rows m p four i j hi hj
+      (closed-least m (sound-net m (L .sound)) (sound-tree m (L .sound)) p (byVertices m p four) (record {
         at-home = λ a ha. let ra = vertex-row m p a ha in omega (arith, later .less p (rowOfVertex m p a) (rowOfVertex m p a) (omega arith) hp (ra .0) (ra .0), blank-home m mem one L p hp B (rowOfVertex m p a) (ra .0));
         road = road-least;
         child = child-least;
         tried = λ r h hf ht never a b ha hb.
-            let n = numbered noRoad (m .roads) r h in
             let f = vertex-row m p (r .from) hf in
             let t = vertex-row m p (r .to) ht in
-            let both = R .halts (n .0) (rowOfVertex m p (r .from)) (rowOfVertex m p (r .to)) (f .0) (n .1) (t .0) (ap (λ (x : Road). x .from) (n .2) ∙ sym (f .1)) (ap (λ (x : Road). x .to) (n .2) ∙ sym (t .1))
+            let both = road-taken r h hf ht .1
             (λ c ri rj. never c (ri .is-child) (subst (λ (v : ℕ). holds m c v ≡ true) (f .1) (ri .is-held)) (subst (λ (v : ℕ). holds m c v ≡ true) (t .1) (rj .is-held))) in (
               C .tight (rowOfVertex m p (r .from)) (f .0) (both .0) (rowOfVertex m p a) (rowOfVertex m p b) (vertex-row m p a ha .0) (vertex-row m p b hb .0),
               C .tight (rowOfVertex m p (r .to)) (t .0) (both .1) (rowOfVertex m p a) (rowOfVertex m p b) (vertex-row m p a ha .0) (vertex-row m p b hb .0),
             );
-      }) (rowVertex m p i) (rowVertex m p j) w (row-is m p i hi) (row-is m p j hj) walk))
+      }) (rowVertex m p i) (rowVertex m p j) w (row-is m p i hi) (row-is m p j hj) walk)
 
   pub risen : Risen m p mem four
   risen = record {

@@ -1,7 +1,7 @@
 -- The roads between the row vertices of a part: the noted places, and the words that the roads lower.
 -- Assumes nothing.
 use mathlib.Core.Path.{_≡_, sym, ap, _∙_, subst, subst⁻¹}
-use mathlib.Core.Logic.{inl, inr}
+use mathlib.Core.Logic.{_⊎_, inl, inr}
 use mathlib.Core.List.{List}
 use Prim.Native.Nat.{ℕ, suc, _+_, _*_, _≤_, _<_}
 use native.Mathlib.Nat.{eq-or-lt-of-le}
@@ -22,13 +22,13 @@ use Rattle.image.specs.Places.{verticesAt, roadsAt, tableOf}
 use Rattle.image.specs.Image.{firstRoadFrom, partBelow}
 use Rattle.image.specs.Records.{rowVertex}
 use Rattle.image.proofs.Records.{vertices-start, roads-start}
-use Rattle.assembly.specs.Laid.{Laid, entry}
+use Rattle.assembly.specs.Laid.{Laid}
 use Rattle.assembly.specs.Lower.{lowered}
-use Rattle.assembly.specs.Steps.{RowIn, Noted, Apart, Marked, RoadsOf, Roads}
+use Rattle.assembly.specs.Steps.{RowIn, Noted, Apart, Marked, RoadsFor, RoadsOf, Roads}
 use Rattle.assembly.proofs.Places.{row-real, laid-kept}
 use Rattle.assembly.proofs.Lowering.{lower-none, lower-then, lower-one, lower-one-at}
 use Rattle.assembly.proofs.Below.{part-below-says}
-use Rattle.assembly.proofs.Pairs.{vertex-small}
+use Rattle.assembly.proofs.Shown.{shown-vertex, shown-part}
 use Rattle.assembly.proofs.Range.{road-range, first-road-few, first-road-last}
 
 -- two rows of a part are of two vertices
@@ -36,13 +36,6 @@ pub row-differ : (m : Map) (p i j : ℕ) → i < sizeOf m p → j < sizeOf m p �
 unfolding sizeOf
 row-differ m p i j hi hj e =
     sym (place-of-entry (rows-unique m p) i hi) ∙ ap (λ (v : ℕ). placeIn v (rowVertices m p)) e ∙ place-of-entry (rows-unique m p) j hj
-
--- the vertex of row i, as its word 2 shows it
-pub shown-vertex : (m : Map) (mem : List ℕ) → Laid m mem → (p i : ℕ) → p < partCount m → i < sizeOf m p → {first mark v : ℕ} → first ≡ getD mem (64 + 8 * p + 2) 0 →
-    mark ≡ getD mem (first + 4 * i + 2) 0 → ((u d : ℕ) → u < 65536 → mark ≡ u + 65536 * d → v ≡ u) → v ≡ rowVertex m p i
-shown-vertex m mem L p i hp hi {first} first-is shown reads =
-    reads (rowVertex m p i) (partBelow m p (rowVertex m p i)) (vertex-small m mem L p i hi)
-    (shown ∙ ap (λ (f : ℕ). getD mem (f + 4 * i + 2) 0) (first-is ∙ L .part p hp .first-row) ∙ L .row p i hp hi .mark)
 
 -- ---- places noted
 
@@ -95,21 +88,33 @@ first-road-end mem {v} all-is past shown m L hv =
     last : m .vertices ≡ v
     last = omega (arith, L .vertices)
 
+-- ---- nothing done, and one thing after the other
+
+module _ {m : Map} {p : ℕ} {Of : ℕ → ℕ → Type 0} where
+  pub roads-none : {mem marks : List ℕ} → ((r i j : ℕ) → Of r i → j < sizeOf m p → roadAt m r .from ≡ rowVertex m p i → roadAt m r .to ≡ rowVertex m p j → ⊥) → RoadsFor m p Of mem mem marks marks
+  roads-none {mem} never = record { lower = lower-none m p mem; kept = λ k h. h; road = λ r i j of _ _ hj starts ends. absurd (never r i j of hj starts ends) }
+
+  pub roads-then : {First Then : ℕ → ℕ → Type 0} {start before after marks marked marked′ : List ℕ} → p < partCount m → ((r i : ℕ) → Of r i → r < roadCount m → First r i ⊎ Then r i) →
+      RoadsFor m p First start before marks marked → RoadsFor m p Then before after marked marked′ → RoadsFor m p Of start after marks marked′
+  roads-then hp which A B = record {
+    lower = lower-then (A .lower) (B .lower);
+    kept = λ k h. B .kept k (A .kept k h);
+    road = λ r i j of hr hi hj starts ends. elim (which r i of hr) [
+      | inl first ↦
+          let (light, halts) = A .road r i j first hr hi hj starts ends in
+          (omega (arith, B .lower .less p i j (omega arith) hp hi hj, light), λ apart. (B .kept i (halts apart .0), B .kept j (halts apart .1)))
+      | inr last ↦ B .road r i j last hr hi hj starts ends
+    ];
+  }
+
 -- ---- one road
 
 module _ (mem place marks : List ℕ) (m : Map) (L : Laid m mem) (p i r : ℕ) (hp : p < partCount m) (hi : i < sizeOf m p) (hr : r < roadCount m) (N : Noted m p (sizeOf m p) place) where
   -- it leads elsewhere: nothing is to be done
   road-none : ((j : ℕ) → j < sizeOf m p → roadAt m r .from ≡ rowVertex m p i → roadAt m r .to ≡ rowVertex m p j → ⊥) → RoadsOf m p i r (suc r) mem mem marks marks
-  road-none never = record {
-    lower = lower-none m p mem;
-    road = λ s j low high hs hj from to.
-        let same : s ≡ r = omega arith in
-        absurd (never j hj (ap (λ (k : ℕ). roadAt m k .from) (sym same) ∙ from) (ap (λ (k : ℕ). roadAt m k .to) (sym same) ∙ to));
-    kept = λ k h. h;
-    halts = λ s j low high hs hj from to _.
-        let same : s ≡ r = omega arith in
-        absurd (never j hj (ap (λ (k : ℕ). roadAt m k .from) (sym same) ∙ from) (ap (λ (k : ℕ). roadAt m k .to) (sym same) ∙ to));
-  }
+  road-none never = roads-none (λ s k j of hj starts ends.
+      let same : s ≡ r = omega (arith, of .1, of .2) in
+      never j hj (ap (λ (n : ℕ). roadAt m n .from) (sym same) ∙ starts ∙ ap (rowVertex m p) (of .0)) (ap (λ (n : ℕ). roadAt m n .to) (sym same) ∙ ends))
 
   pub road-from-another : {from v : ℕ} → from ≡ roadAt m r .from → v ≡ rowVertex m p i → (from ≡ v → ⊥) → RoadsOf m p i r (suc r) mem mem marks marks
   road-from-another from-is v-is other = road-none (λ j hj starts ends. other (from-is ∙ starts ∙ sym v-is))
@@ -134,15 +139,11 @@ module _ (mem place marks : List ℕ) (m : Map) (L : Laid m mem) (p i r : ℕ) (
   road-taken {weight = weight} {size = size} {line = line} {j = j} {column = column} from-is to-is weight-is u-is starts size-is within v-is ends table-is line-is column-is after-is marked kept both =
       rw (after-is, there) (record {
         lower = lower-one m mem (L .fits) p i j hp hi hj weight p (omega arith) (λ _. near);
-        road = λ s k low high hs hk from to.
-            let same : s ≡ r = omega arith in
-            let column-same : k ≡ j = row-differ m p k j hk hj (sym to ∙ ap (λ (x : ℕ). roadAt m x .to) same ∙ leads-to) in
-            rw (same, column-same, ← weight-is) (lower-one-at m mem (L .fits) p i j hp hi hj weight);
         kept = kept;
-        halts = λ s k low high hs hk from to apart.
-            let same : s ≡ r = omega arith in
+        road = λ s n k of hs hn hk from to.
+            let same : s ≡ r = omega (arith, of .1, of .2) in
             let column-same : k ≡ j = row-differ m p k j hk hj (sym to ∙ ap (λ (x : ℕ). roadAt m x .to) same ∙ leads-to) in
-            subst⁻¹ (λ (x : ℕ). Apart m p i x → (word marked i ≡ 1) × (word marked x ≡ 1)) column-same (both hj) apart;
+            rw (same, of .0, column-same, ← weight-is) (lower-one-at m mem (L .fits) p i j hp hi hj weight, both hj);
       })
     where
       sized : size ≡ sizeOf m p
@@ -211,12 +212,10 @@ module _ (mem place marks : List ℕ) (p i r : ℕ) {parts a all b c size first 
         (λ hj apart. M .both (omega (arith, wide, few-rows m (L .sound) p hp)) (omega (arith, wide, few-rows m (L .sound) p hp)) (λ same. alone hj apart same))
       where
         own : d ≡ partBelow m p (rowVertex m p i)
-        own = part-reads (rowVertex m p i) (partBelow m p (rowVertex m p i)) (vertex-small m mem L p i hi)
-            (mark-is ∙ ap (λ (f : ℕ). getD mem (f + 4 * i + 2) 0) (first-is ∙ L .part p hp .first-row) ∙ L .row p i hp hi .mark)
+        own = shown-part m mem L p i hp hi first-is mark-is part-reads
 
         other : j < sizeOf m p → e ≡ partBelow m p (rowVertex m p j)
-        other hj = part-reads′ (rowVertex m p j) (partBelow m p (rowVertex m p j)) (vertex-small m mem L p j hj)
-            (mark′-is ∙ ap (λ (f : ℕ). getD mem (f + 4 * j + 2) 0) (first-is ∙ L .part p hp .first-row) ∙ L .row p j hp hj .mark)
+        other hj = shown-part m mem L p j hp hj first-is mark′-is part-reads′
 
         alone : j < sizeOf m p → Apart m p i j → d ≡ e → d ≡ 0
         alone hj apart same = elim (ℕ-discrete d 0) [
@@ -233,7 +232,7 @@ module _ (start place marks : List ℕ) (p i from : ℕ) where
   RoadsTo r mem marked = (m : Map) → Laid m start → p < partCount m → i < sizeOf m p → Noted m p (sizeOf m p) place → 128 ≤ length marks → RoadsOf m p i from r start mem marks marked
 
   pub roads-first : RoadsTo from start marks
-  roads-first m L hp hi N _ = record { lower = lower-none m p start; road = λ r j low high. absurd (omega arith); kept = λ k h. h; halts = λ r j low high. absurd (omega arith) }
+  roads-first m L hp hi N _ = roads-none (λ r k j of _ _ _. omega (arith, of .1, of .2))
 
   pub roads-turn : {first mark v end : ℕ} (before after marked marked′ : List ℕ) (r : ℕ) → length marked ≡ length marks → r < end →
       first ≡ getD start (64 + 8 * p + 2) 0 → mark ≡ getD start (first + 4 * i + 2) 0 → ((u d : ℕ) → u < 65536 → mark ≡ u + 65536 * d → v ≡ u) →
@@ -244,24 +243,7 @@ module _ (start place marks : List ℕ) (p i from : ℕ) where
       let v-is = shown-vertex m start L p i hp hi first-is shown reads in
       let within : r < roadCount m = omega (arith, end-is m L (omega (arith, v-is, row-real m p i hi)), first-road-few m (L .sound) (v + 1)) in
       let B = one m (laid-kept m start before (A .lower .sized) (A .lower .outside) L) hp hi within N (omega (arith, wide)) in
-      record {
-        lower = lower-then (A .lower) (B .lower);
-        kept = λ k h. B .kept k (A .kept k h);
-        halts = λ s j low high hs hj starts ends apart. elim (eq-or-lt-of-le high) [
-          | inl e ↦
-              let same : s ≡ r = omega arith in
-              B .halts s j (omega arith) (omega arith) hs hj starts ends apart
-          | inr less ↦
-              let both = A .halts s j low (omega arith) hs hj starts ends apart in
-              (B .kept i (both .0), B .kept j (both .1))
-        ];
-        road = λ s j low high hs hj starts ends. elim (eq-or-lt-of-le high) [
-          | inl e ↦
-              let same : s ≡ r = omega arith in
-              B .road s j (omega arith) (omega arith) hs hj starts ends
-          | inr less ↦ omega (arith, B .lower .less p i j (omega arith) hp hi hj, A .road s j low (omega arith) hs hj starts ends)
-        ];
-      }
+      roads-then hp (λ s k of _. elim (eq-or-lt-of-le (of .2)) [ inl now ↦ inr (of .0, omega arith, omega arith) | inr less ↦ inl (of .0, of .1, omega arith) ]) A B
 
   pub roads-done : {first mark v end : ℕ} (mem marked : List ℕ) (r : ℕ) → end ≤ r → first ≡ getD start (64 + 8 * p + 2) 0 → mark ≡ getD start (first + 4 * i + 2) 0 →
       ((u d : ℕ) → u < 65536 → mark ≡ u + 65536 * d → v ≡ u) → ((m : Map) → Laid m start → v ≤ m .vertices → from ≡ firstRoadFrom m v) →
@@ -272,18 +254,14 @@ module _ (start place marks : List ℕ) (p i from : ℕ) where
       record {
         lower = A .lower;
         kept = A .kept;
-        halts = λ s j _ _ hs hj starts ends apart.
+        road = λ s k j of hs hk hj starts ends.
             let range = road-range m (L .sound) s hs in
-            let e : roadAt m s .from ≡ v = starts ∙ sym v-is in
-            A .halts s j
-            (omega (arith, range .0, from-is m L (omega (arith, v-is, row-real m p i hi)), ap (firstRoadFrom m) e))
-            (omega (arith, range .1, ends-at, ap (λ (x : ℕ). firstRoadFrom m (suc x)) e)) hs hj starts ends apart;
-        road = λ s j _ _ hs hj starts ends.
-            let range = road-range m (L .sound) s hs in
-            let e : roadAt m s .from ≡ v = starts ∙ sym v-is in
-            A .road s j
-            (omega (arith, range .0, from-is m L (omega (arith, v-is, row-real m p i hi)), ap (firstRoadFrom m) e))
-            (omega (arith, range .1, ends-at, ap (λ (x : ℕ). firstRoadFrom m (suc x)) e)) hs hj starts ends;
+            let e : roadAt m s .from ≡ v = starts ∙ ap (rowVertex m p) (of .0) ∙ sym v-is in
+            A .road s k j (
+              of .0,
+              omega (arith, range .0, from-is m L (omega (arith, v-is, row-real m p i hi)), ap (firstRoadFrom m) e),
+              omega (arith, range .1, ends-at, ap (λ (x : ℕ). firstRoadFrom m (suc x)) e),
+            ) hs hk hj starts ends;
       }
     where
       v-is : v ≡ rowVertex m p i
@@ -299,7 +277,7 @@ module _ (start place marks : List ℕ) (p : ℕ) where
   RowsTaken i mem marked = (m : Map) → Laid m start → p < partCount m → Noted m p (sizeOf m p) place → 128 ≤ length marks → Roads m p i start mem marks marked
 
   pub taken-first : RowsTaken 0 start marks
-  taken-first m L hp N _ = record { lower = lower-none m p start; road = λ r i j h. absurd (omega arith); kept = λ k h. h; halts = λ r i j h. absurd (omega arith) }
+  taken-first m L hp N _ = roads-none (λ r i j of _ _ _. omega arith)
 
   pub taken-turn : {size : ℕ} (before after marked marked′ : List ℕ) (i : ℕ) → length marked ≡ length marks → i < size → size ≡ getD start (64 + 8 * p + 1) 0 → RowsTaken i before marked →
       ((m : Map) → Laid m before → p < partCount m → i < sizeOf m p → Noted m p (sizeOf m p) place → 128 ≤ length marked → RoadsOf m p i 0 (roadCount m) before after marked marked′) → RowsTaken (i + 1) after marked′
@@ -307,26 +285,7 @@ module _ (start place marks : List ℕ) (p : ℕ) where
       let A = done m L hp N wide in
       let fits : i < sizeOf m p = omega (arith, L .part p hp .size) in
       let B = row m (laid-kept m start before (A .lower .sized) (A .lower .outside) L) hp fits N (omega (arith, wide)) in
-      record {
-        lower = lower-then (A .lower) (B .lower);
-        kept = λ k h. B .kept k (A .kept k h);
-        halts = λ r k j hk hr hj starts ends apart. elim (eq-or-lt-of-le hk) [
-          | inl e ↦
-              let same : k ≡ i = omega arith in
-              subst⁻¹ (λ (x : ℕ). roadAt m r .from ≡ rowVertex m p x → Apart m p x j → (word marked′ x ≡ 1) × (word marked′ j ≡ 1)) same
-              (λ from apart. B .halts r j (omega arith) hr hr hj from ends apart) starts apart
-          | inr less ↦
-              let both = A .halts r k j (omega arith) hr hj starts ends apart in
-              (B .kept k (both .0), B .kept j (both .1))
-        ];
-        road = λ r k j hk hr hj starts ends. elim (eq-or-lt-of-le hk) [
-          | inl e ↦
-              let same : k ≡ i = omega arith in
-              subst⁻¹ (λ (x : ℕ). roadAt m r .from ≡ rowVertex m p x → entry m after p x j ≤ roadAt m r .weight) same
-              (λ from. B .road r j (omega arith) hr hr hj from ends) starts
-          | inr less ↦ omega (arith, B .lower .less p k j (omega arith) hp (omega (arith, fits)) hj, A .road r k j (omega arith) hr hj starts ends)
-        ];
-      }
+      roads-then hp (λ r k hk hr. elim (eq-or-lt-of-le hk) [ inl now ↦ inr (omega arith, omega arith, hr) | inr less ↦ inl (omega arith) ]) A B
 
   pub taken-done : {size : ℕ} (mem marked : List ℕ) (i : ℕ) → i ≤ size → size ≤ i → size ≡ getD start (64 + 8 * p + 1) 0 → RowsTaken i mem marked →
       (m : Map) → Laid m start → p < partCount m → Noted m p (sizeOf m p) place → 128 ≤ length marks → Roads m p (sizeOf m p) start mem marks marked

@@ -1,7 +1,7 @@
 -- One row vertex tried in the table of its part, as a halt between every two: no way round by it is lighter then, and none by a vertex tried before.
 -- Assumes nothing.
-use mathlib.Core.Path.{_≡_, subst, subst⁻¹}
-use mathlib.Core.Logic.{_⊎_, inl, inr, ⊎-elim}
+use mathlib.Core.Path.{_≡_, subst⁻¹}
+use mathlib.Core.Logic.{inl, inr, ⊎-elim}
 use mathlib.Core.List.{List}
 use Prim.Native.Nat.{ℕ, _+_, _*_, _≤_, _<_, min}
 use native.Mathlib.Decide.{decLt, ℕ-discrete}

@@ -3,18 +3,17 @@ use mathlib.Core.Path.{_≡_}
 use mathlib.Core.Logic.{_⊎_, _≢_}
 use mathlib.Core.Bool.{true}
 use mathlib.Core.List.{List, List·Memᴰ}
-use Prim.Native.Nat.{ℕ, suc, _+_, _*_, _≤_, _<_, min}
-use lib.ListN.{length, getD}
+use Prim.Native.Nat.{ℕ, _+_, _*_, _≤_, _<_}
+use lib.ListN.{length}
 use Rattle.words.specs.Lists.{word, placeIn}
 use Rattle.roads.specs.Map.{Map, partCount, roadCount, roadAt}
-use Rattle.roads.specs.Dist.{dist}
 use Rattle.parts.specs.Tree.{parentOf, holds, children}
 use Rattle.parts.specs.Size.{rowVertices, sizeOf}
 use Rattle.image.specs.Places.{tableOf, firstRowOf}
 use Rattle.image.specs.Records.{rowVertex}
 use Rattle.table_rows.specs.Flat.{Tried}
-use Rattle.assembly.specs.Laid.{Laid, entry, Outside}
-use Rattle.assembly.specs.Lower.{Honest, Lower, Inside, Short}
+use Rattle.assembly.specs.Laid.{entry, Outside}
+use Rattle.assembly.specs.Lower.{Lower, Inside, Short}
 
 -- ---- a row of a part and the same vertex's row in a child
 
@@ -27,25 +26,36 @@ pub record RowIn (m : Map) (p i c : ℕ) : Type 0 where
   pub is-child : List·Memᴰ c (children m p)
   pub is-held : holds m c (rowVertex m p i) ≡ true
 
+-- what the words of row i of p tell of its row in the child that holds it: the child, 0 where none does, its size, where its rows and its table
+-- start, and the row
+pub record RowBelow (m : Map) (p i part size first table row : ℕ) : Type 0 where
+  pub alone : part ≡ 0 → (c : ℕ) → RowIn m p i c → ⊥
+  pub row-in : part ≢ 0 → RowIn m p i part
+  pub is-part : part ≢ 0 → part < partCount m
+  pub size-is : part ≢ 0 → size ≡ sizeOf m part
+  pub first-is : part ≢ 0 → first ≡ firstRowOf m part
+  pub table-is : part ≢ 0 → table ≡ tableOf m part
+  pub row-is : part ≢ 0 → row ≡ placeBelow m p i part
+
 -- ---- the words of a part and of its children, for the same two vertices
 
--- of rows i and j of part p: the words of part and child are no more than what the other was
-pub record AgreedPair (m : Map) (low p i j : ℕ) (before after : List ℕ) : Type 0 where
+-- for the rows i and j of part p with `Of i j`: the words of part and child are no more than what the other was
+pub record AgreedFor (m : Map) (low p : ℕ) (Of : ℕ → ℕ → Type 0) (before after : List ℕ) : Type 0 where
   pub lower : Lower m low before after
-  pub up : (c : ℕ) → RowIn m p i c → RowIn m p j c → entry m after p i j ≤ entry m before c (placeBelow m p i c) (placeBelow m p j c)
-  pub down : (c : ℕ) → RowIn m p i c → RowIn m p j c → entry m after c (placeBelow m p i c) (placeBelow m p j c) ≤ entry m before p i j
+  pub up : (c i j : ℕ) → Of i j → i < sizeOf m p → j < sizeOf m p → RowIn m p i c → RowIn m p j c → entry m after p i j ≤ entry m before c (placeBelow m p i c) (placeBelow m p j c)
+  pub down : (c i j : ℕ) → Of i j → i < sizeOf m p → j < sizeOf m p → RowIn m p i c → RowIn m p j c → entry m after c (placeBelow m p i c) (placeBelow m p j c) ≤ entry m before p i j
 
--- of row i, with the first n rows
-pub record AgreedRow (m : Map) (low p i n : ℕ) (before after : List ℕ) : Type 0 where
-  pub lower : Lower m low before after
-  pub up : (c j : ℕ) → j < n → RowIn m p i c → RowIn m p j c → entry m after p i j ≤ entry m before c (placeBelow m p i c) (placeBelow m p j c)
-  pub down : (c j : ℕ) → j < n → RowIn m p i c → RowIn m p j c → entry m after c (placeBelow m p i c) (placeBelow m p j c) ≤ entry m before p i j
+-- for the rows i and j
+abbrev pub AgreedPair : Map → (low p i j : ℕ) → List ℕ → List ℕ → Type 0
+AgreedPair m low p i j = AgreedFor m low p (λ a b. (a ≡ i) × (b ≡ j))
 
--- of the first n rows, with all
-pub record Agreed (m : Map) (low p n : ℕ) (before after : List ℕ) : Type 0 where
-  pub lower : Lower m low before after
-  pub up : (c i j : ℕ) → i < n → j < sizeOf m p → RowIn m p i c → RowIn m p j c → entry m after p i j ≤ entry m before c (placeBelow m p i c) (placeBelow m p j c)
-  pub down : (c i j : ℕ) → i < n → j < sizeOf m p → RowIn m p i c → RowIn m p j c → entry m after c (placeBelow m p i c) (placeBelow m p j c) ≤ entry m before p i j
+-- for row i, with the first n rows
+abbrev pub AgreedRow : Map → (low p i n : ℕ) → List ℕ → List ℕ → Type 0
+AgreedRow m low p i n = AgreedFor m low p (λ a b. (a ≡ i) × (b < n))
+
+-- for the first n rows, with all
+abbrev pub Agreed : Map → (low p n : ℕ) → List ℕ → List ℕ → Type 0
+Agreed m low p n = AgreedFor m low p (λ a b. a < n)
 
 -- where the words of row i of p and of its row in c stand
 pub record Lines (m : Map) (p i c size first line firstBelow lineBelow : ℕ) : Type 0 where
@@ -71,24 +81,21 @@ pub record Marked (marks : List ℕ) (i j d e : ℕ) (marked : List ℕ) : Type 
   pub kept : (k : ℕ) → word marks k ≡ 1 → word marked k ≡ 1
   pub both : i < length marks → j < length marks → (d ≡ e → d ≡ 0) → (word marked i ≡ 1) × (word marked j ≡ 1)
 
--- The roads with a number of at least `from` and below `to`, from the vertex of row i to another row vertex, have lowered their words; and the
--- ends of those that no child holds are marked as halts.
-pub record RoadsOf (m : Map) (p i from to : ℕ) (before after marks marked : List ℕ) : Type 0 where
+-- The roads r with `Of r i`, from the vertex of row i to another row vertex, have lowered their words; and the ends of those that no child holds
+-- are marked as halts.
+pub record RoadsFor (m : Map) (p : ℕ) (Of : ℕ → ℕ → Type 0) (before after marks marked : List ℕ) : Type 0 where
   pub lower : Lower m p before after
-  pub road : (r j : ℕ) → from ≤ r → r < to → r < roadCount m → j < sizeOf m p → roadAt m r .from ≡ rowVertex m p i → roadAt m r .to ≡ rowVertex m p j →
-      entry m after p i j ≤ roadAt m r .weight
   pub kept : (k : ℕ) → word marks k ≡ 1 → word marked k ≡ 1
-  pub halts : (r j : ℕ) → from ≤ r → r < to → r < roadCount m → j < sizeOf m p → roadAt m r .from ≡ rowVertex m p i → roadAt m r .to ≡ rowVertex m p j →
-      Apart m p i j → (word marked i ≡ 1) × (word marked j ≡ 1)
+  pub road : (r i j : ℕ) → Of r i → r < roadCount m → i < sizeOf m p → j < sizeOf m p → roadAt m r .from ≡ rowVertex m p i → roadAt m r .to ≡ rowVertex m p j →
+      (entry m after p i j ≤ roadAt m r .weight) × (Apart m p i j → (word marked i ≡ 1) × (word marked j ≡ 1))
+
+-- the roads with a number of at least `from` and below `to`, from the vertex of row i
+abbrev pub RoadsOf : Map → (p i from to : ℕ) → (before after marks marked : List ℕ) → Type 0
+RoadsOf m p i from to = RoadsFor m p (λ r k. (k ≡ i) × (from ≤ r) × (r < to))
 
 -- all roads from the vertices of the first n rows
-pub record Roads (m : Map) (p n : ℕ) (before after marks marked : List ℕ) : Type 0 where
-  pub lower : Lower m p before after
-  pub road : (r i j : ℕ) → i < n → r < roadCount m → j < sizeOf m p → roadAt m r .from ≡ rowVertex m p i → roadAt m r .to ≡ rowVertex m p j →
-      entry m after p i j ≤ roadAt m r .weight
-  pub kept : (k : ℕ) → word marks k ≡ 1 → word marked k ≡ 1
-  pub halts : (r i j : ℕ) → i < n → r < roadCount m → j < sizeOf m p → roadAt m r .from ≡ rowVertex m p i → roadAt m r .to ≡ rowVertex m p j →
-      Apart m p i j → (word marked i ≡ 1) × (word marked j ≡ 1)
+abbrev pub Roads : Map → (p n : ℕ) → (before after marks marked : List ℕ) → Type 0
+Roads m p n = RoadsFor m p (λ r i. i < n)
 
 -- ---- nodes tried
 

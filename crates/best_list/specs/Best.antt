@@ -4,7 +4,6 @@ use mathlib.Core.Bool.{cond}
 use mathlib.Core.List.{List, [], _∷_}
 use lib.ListN.{length, take, getD}
 use lib.Dec.{ltb}
-use Rattle.words.specs.Limits.{FAR}
 use Rattle.fleet.specs.Question.{Listed, listedBefore}
 
 -- a van with its distance, and the stamp that it has by `stampOf`

@@ -1,11 +1,10 @@
 -- The least of many distances, one more at a time.
 -- Assumes nothing.
 use mathlib.Core.Path.{_≡_, refl, ap, subst, _∙_}
-use mathlib.Core.Logic.{_⊎_, inl, inr, ⊎-elim}
-use Prim.Native.Nat.{ℕ, suc, _+_, _≤_, _<_, min}
-use native.Mathlib.Nat.{eq-or-lt-of-le}
+use mathlib.Core.Logic.{inl, inr, ⊎-elim}
+use Prim.Native.Nat.{ℕ, _+_, _≤_, _<_, min}
 use native.Mathlib.Decide.{ℕ-discrete}
-use native.Mathlib.Omega.{arith, min-cases}
+use native.Mathlib.Omega.{arith}
 use Rattle.words.specs.Limits.{FAR}
 use Rattle.far_sums.specs.Least.{Least}
 

@@ -22,7 +22,7 @@ use Rattle.fleet.specs.State.{Slot, absent, State, active}
 use Rattle.image.specs.Places.{verticesAt, roadsAt, vansAt, tablesAt, rowsAt, tableOf, firstRowOf, distanceAt, rowAt}
 use Rattle.image.specs.Image.{headPart, partRecord, endsAt, vertexRecord, roadRecords, vanRecord, nextVan, vanRecords, tableRecord, rowRecord, partBelow, rowBelow, rowRecords, beforeTables, image}
 use Rattle.image.specs.Records.{rowVertex, roadRecord, vanWords}
-use Rattle.image.proofs.Length.{roads-length, vans-length, head-length, parts-length, vertices-length, tables-length, all-rows-length, image-length, van-length}
+use Rattle.image.proofs.Length.{roads-length, head-length, parts-length, vertices-length, image-length, van-length}
 use Rattle.image.proofs.Words.{before-length, distance-word, row-word}
 
 -- word w of record x, where records of eight words stand for the numbers below n

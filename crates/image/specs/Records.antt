@@ -3,7 +3,7 @@ use Prim.Native.Nat.{ℕ, suc}
 use mathlib.Core.List.{List, [], _∷_}
 use lib.ListN.{getD, drop}
 use Rattle.words.specs.Lists.{link}
-use Rattle.roads.specs.Map.{Road, Map, roadAt}
+use Rattle.roads.specs.Map.{Map, roadAt}
 use Rattle.parts.specs.Size.{rowVertices}
 use Rattle.fleet.specs.State.{State, slotOf}
 use Rattle.image.specs.Image.{endsAt, vanRecord, nextVan}

@@ -1,3 +1,2 @@
-pub mod Inner
 pub mod Up
 pub mod Down

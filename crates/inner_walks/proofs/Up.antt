@@ -2,22 +2,23 @@
 -- round by a row vertex be lighter lets no walk inside the part be lighter.
 -- Assumes nothing.
 use mathlib.Core.Path.{_≡_, sym, _∙_, subst}
-use mathlib.Core.Logic.{⊎-elim, _≢_}
+use mathlib.Core.Logic.{⊎-elim}
 use mathlib.Core.Bool.{true, false, true≢false}
 use mathlib.Core.List.{List·Memᴰ}
 use Prim.Native.Nat.{ℕ, _+_, _≤_}
 use native.Mathlib.Omega.{arith}
 use Rattle.words.proofs.Tests.{true-or-false}
 use Rattle.roads.specs.Map.{Road, Map}
+use Rattle.roads.specs.Walk.{rest, along}
 use Rattle.roads.proofs.Trail.{Net}
+use Rattle.roads.proofs.Inner.{inner-start, inner-end, inner-joined, inner-road}
 use Rattle.parts.specs.Tree.{holds, children, isLeaf}
 use Rattle.parts.specs.Size.{rowVertices}
 use Rattle.parts.proofs.Tree.{holds-says}
 use Rattle.parts.proofs.Cross.{enters-boundary, leaves-boundary}
 use Rattle.parts.proofs.Down.{Tree, leaf-childless, vertices-has, leaf-of-held, child-holding, children-apart}
 use Rattle.parts.proofs.Gates.{rows-leaf, boundary-above}
-use Rattle.inner_walks.specs.Inner.{Inner, rest, along}
-use Rattle.inner_walks.proofs.Inner.{inner-start, inner-end, inner-joined, inner-road}
+use Rattle.inner_walks.specs.Inner.{Inner}
 
 -- what a table over the row vertices of p has to keep
 pub record Closed (m : Map) (p : ℕ) (T : ℕ → ℕ → ℕ) : Type 0 where

@@ -1,17 +1,16 @@
 -- The judgement, where the outcomes of the tests are known.
 -- Assumes nothing.
-use mathlib.Core.Path.{_≡_, refl, sym, ap, _∙_}
+use mathlib.Core.Path.{_≡_, sym, ap, _∙_}
 use mathlib.Core.Bool.{Bool, true}
 use mathlib.Core.List.{List}
 use Prim.Native.Nat.{ℕ, _<_, _≤_}
-use native.Mathlib.Omega.{arith}
 use lib.ListN.{length}
 use borrow.Author.Tests.{leb-true}
 use Rattle.words.specs.Limits.{mostBorders}
 use Rattle.words.specs.Lists.{upTo, word}
 use Rattle.words.specs.Tests.{_unless_then_}
 use Rattle.words.proofs.Lists.{upTo-has, all-at}
-use Rattle.roads.specs.Map.{Map, partCount, roadCount}
+use Rattle.roads.specs.Map.{Map, roadCount}
 use Rattle.maps.specs.Bytes.{isRecord, countsOf, length1, roadsOf, decode}
 use Rattle.maps.specs.Rules.{countsFit, partsFit, roadsFit, bordersFit}
 use Rattle.maps.specs.Judge.{restFits, ruleRefusal, mapRefusal, verdict, judge}
@@ -25,7 +24,6 @@ use Rattle.map_borders.specs.Mark.{fewAt}
 use Rattle.map_borders.specs.Sizes.{Given, Sizes}
 use Rattle.map_borders.proofs.Earlier.{told as known}
 use Rattle.map_borders.proofs.Borders.{borders-fit-is}
-use Rattle.map_judge.specs.declared.Judgement.{Judgement}
 use Rattle.map_judge.specs.declared.Judgement.the-variants.{Sound}
 use Rattle.map_judge.specs.Asked.{asked, Limited}
 use Rattle.map_judge.specs.Need.{needOf}

@@ -11,10 +11,10 @@ use Rattle.words.specs.Limits.{mostVertices, mostRoads, mostParts, NONE}
 use Rattle.words.specs.Tests.{within}
 use Rattle.words.proofs.Tests.{both-true, within-true}
 use Rattle.roads.specs.Map.{Map, partCount, roadCount}
-use Rattle.maps.specs.Bytes.{Counts, countsOf, numberAt, numbers, roadsOf, decode}
+use Rattle.maps.specs.Bytes.{Counts, countsOf, numberAt, roadsOf, decode}
 use Rattle.maps.specs.Rules.{countsFit}
 use Rattle.maps.specs.Judge.{sound, judge}
-use Rattle.maps.proofs.Judged.{numbers-length, number-is, roads-length, Shown, judged-shown}
+use Rattle.maps.proofs.Judged.{numbers-length, number-is, roads-length, judged-shown}
 use Rattle.map_bytes.specs.Copied.{Copied}
 use Rattle.map_parts.specs.Part.{Shows}
 use Rattle.map_borders.specs.Sizes.{Given}

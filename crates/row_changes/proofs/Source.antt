@@ -1,7 +1,7 @@
 -- A part's row is the nearest candidate, in a leaf as in any other part.
 -- Assumes nothing.
 use mathlib.Core.Path.{_≡_, refl, sym, _∙_, ap, subst, subst⁻¹}
-use mathlib.Core.Logic.{_⊎_, inl, inr, ⊎-elim}
+use mathlib.Core.Logic.{inl, inr, ⊎-elim}
 use mathlib.Core.Bool.{Bool, true, false, cond}
 use mathlib.Core.List.{map, List·Memᴰ}
 use Prim.Native.Nat.{ℕ, _+_, _<_}

@@ -1,13 +1,12 @@
 -- The refresh of a vertex's leaf and of each part above it keeps every row exact.
 -- Assumes nothing.
-use mathlib.Core.Path.{_≡_, refl, sym, _∙_, ap, subst, subst⁻¹}
+use mathlib.Core.Path.{_≡_, refl, sym, _∙_, subst, subst⁻¹}
 use mathlib.Core.Logic.{_⊎_, inl, inr, ⊎-elim, _≢_}
-use mathlib.Core.Bool.{Bool, true, false, _&&_, cond, true≢false}
+use mathlib.Core.Bool.{Bool, true, false, _&&_, cond}
 use mathlib.Core.List.{List, List·Memᴰ}
-use Prim.Native.Nat.{ℕ, zero, suc, _+_, _≤_, _<_}
+use Prim.Native.Nat.{ℕ, zero, suc, _≤_, _<_}
 use native.Mathlib.Decide.{ℕ-discrete, decLt}
 use native.Mathlib.Omega.{arith}
-use lib.ListN.{length, getD}
 use lib.Dec.{ltb}
 use borrow.Author.Tests.{lt-ltb, le-ltb}
 use Rattle.words.specs.Lists.{word, placeIn}
@@ -18,7 +17,7 @@ use Rattle.roads.proofs.Trail.{Net}
 use Rattle.parts.specs.Tree.{parentOf, leafOf, level, holds, isLeaf, verticesOf}
 use Rattle.parts.specs.Border.{borders}
 use Rattle.parts.specs.Size.{rowVertices, sizeOf}
-use Rattle.parts.proofs.Tree.{Above, here, up, Falls, above-least, above-chain, none-between, holds-above, holds-parent, holds-child}
+use Rattle.parts.proofs.Tree.{Above, above-least, above-chain, none-between, holds-above, holds-parent, holds-child}
 use Rattle.parts.proofs.Way.{in-own-leaf}
 use Rattle.parts.proofs.Down.{Tree, leaf-childless, children-has}
 use Rattle.rows.specs.Row.{rowOf}

@@ -1,8 +1,8 @@
 -- A memory with the rows of one fleet and all else of another becomes the image of the second, when one vertex became active or inactive between them.
 -- Assumes nothing.
-use mathlib.Core.Path.{_≡_, refl, sym, _∙_, ap, subst}
+use mathlib.Core.Path.{_≡_, refl, sym, _∙_, ap}
 use mathlib.Core.Logic.{_⊎_, inl, inr, ⊎-elim, _≢_}
-use mathlib.Core.Bool.{Bool, true, false, cond}
+use mathlib.Core.Bool.{Bool, cond}
 use mathlib.Core.List.{List}
 use Prim.Native.Nat.{ℕ, zero, suc, _+_, _-_, _*_, _≤_, _<_}
 use native.Mathlib.Nat.{add-zero}
@@ -12,11 +12,9 @@ use lib.ListN.{length}
 use Rattle.words.specs.Limits.{vans}
 use Rattle.words.specs.Lists.{word}
 use Rattle.words.proofs.Sums.{InRecord, in-record}
-use Rattle.roads.specs.Map.{Map, partCount, roadCount}
-use Rattle.roads.specs.Dist.{dist}
-use Rattle.parts.specs.Tree.{parentOf, leafOf, isLeaf, verticesOf}
-use Rattle.parts.specs.Border.{borders}
-use Rattle.parts.specs.Size.{rowVertices, sizeOf, rowCount, need}
+use Rattle.roads.specs.Map.{Map, partCount}
+use Rattle.parts.specs.Tree.{leafOf}
+use Rattle.parts.specs.Size.{sizeOf, need}
 use Rattle.parts.proofs.Tree.{holds-says}
 use Rattle.maps.specs.Sound.{Sound}
 use Rattle.maps.proofs.Distances.{sound-net, sound-tree, few-rows}
@@ -24,8 +22,8 @@ use Rattle.rows.specs.declared.Row.{Row}
 use Rattle.rows.specs.Row.{emptyRow, itself, rowOf}
 use Rattle.rows.proofs.Elsewhere.{row-elsewhere}
 use Rattle.fleet.specs.State.{State, active}
-use Rattle.image.specs.Places.{verticesAt, roadsAt, vansAt, tablesAt, rowsAt, itselfAt, tableOf, firstRowOf}
-use Rattle.image.specs.Image.{headPart, partRecord, vertexRecord, rowRecord, partBelow, rowBelow, image}
+use Rattle.image.specs.Places.{verticesAt, roadsAt, rowsAt, itselfAt, tableOf, firstRowOf}
+use Rattle.image.specs.Image.{headPart, partRecord, vertexRecord, image}
 use Rattle.image.specs.Records.{rowVertex}
 use Rattle.image.proofs.Length.{image-length}
 use Rattle.image.proofs.Records.{vertices-start, roads-start, vans-start, tables-start, rows-start, rows-end, head-word, part-word, vertex-word, table-word, shown-word, Address, in-head, in-parts, in-vertices, in-roads, in-vans, in-tables, in-rows, image-by-words}

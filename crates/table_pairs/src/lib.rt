@@ -13,6 +13,7 @@ use table_words::of_part;
 use table_words::of_row;
 use table_words::part_of;
 use table_words::place_of;
+use table_words::row_below;
 
 // Row j, where its vertex stands in child c as that of row i does: the words of the two vertices in the part and in the child become the lesser.
 fn level_pair(
@@ -64,17 +65,14 @@ fn agree_row(mem: &mut [u32], p: u32, i: u32)
     let size = of_part(mem, p, 1);
     let first = of_part(mem, p, 2);
     let table = of_part(mem, p, 3);
-    let c = part_of(of_row(mem, first, i, 2));
+    let b = row_below(mem, first, i);
+    let c = b.part;
     if c == 0 {
         return;
     }
-    let size_below = of_part(mem, c, 1);
-    let first_below = of_part(mem, c, 2);
-    let table_below = of_part(mem, c, 3);
-    let k = place_of(of_row(mem, first, i, 3), first_below);
     let line = line_of(table, size, i);
-    let line_below = line_of(table_below, size_below, k);
-    level_row(mem, size, first, line, c, first_below, line_below);
+    let line_below = line_of(b.table, b.size, b.row);
+    level_row(mem, size, first, line, c, b.first, line_below);
 }
 
 // The table of part p and those of its children agree at the vertices that they share.

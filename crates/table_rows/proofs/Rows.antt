@@ -1,9 +1,9 @@
 -- How far the loops over the rows of a table have come, and a table that is lent and put back.
 -- Assumes nothing.
 use mathlib.Core.Path.{_≡_, refl, sym, ap, _∙_}
-use mathlib.Core.Logic.{_⊎_, inl, inr, ⊎-elim}
+use mathlib.Core.Logic.{_⊎_, inl, inr, ⊎-elim, _≢_}
 use mathlib.Core.List.{List}
-use Prim.Native.Nat.{ℕ, suc, _+_, _*_, _-_, _≤_, _<_, min}
+use Prim.Native.Nat.{ℕ, _+_, _*_, _-_, _≤_, _<_, min}
 use native.Mathlib.Nat.{mul-le-mul-left, mul-suc, mul-zero, eq-or-lt-of-le}
 use native.Mathlib.Numerals.{add-one}
 use native.Mathlib.Decide.{decLt, ℕ-discrete}
@@ -12,9 +12,7 @@ use borrow.Rule.Slice.PartMut.{putMid, take-put, drop-put, same-len-mid}
 use borrow.Author.Tests.{eq-eqb, ne-eqb}
 use lib.ListN.{length, getD, set, take, drop, length-take, length-drop, length-set, List·getD-append}
 use lib.Seq.{getD-take, getD-drop, getD-append-add, length-take-le, getD-set-same, getD-set-other}
-use Rattle.table_rows.specs.Relax.{relaxRow}
-use Rattle.table_rows.specs.Flat.{entry, through, blank, Holds, RowIs, Whole, StartsWith, Becomes, Tried, Blanked}
-use Rattle.table_rows.proofs.Relaxing.{relaxed-length, relaxed-at}
+use Rattle.table_rows.specs.Flat.{entry, through, blank, Holds, RowIs, Begins, StartsWith, Becomes, Tried, Blanked}
 
 -- ---- a part of a list put back
 
@@ -46,8 +44,32 @@ module _ (words : List ℕ) (from to : ℕ) (rising : from ≤ to) (inside : to 
           ∙ ap (λ (l : List ℕ). getD l (i - to) 0) (drop-put from to words new rising inside sized)
           ∙ getD-drop to words (i - to) 0)
 
+      pub put-outside : (i : ℕ) → (i < from) ⊎ (to ≤ i) → getD (putMid from (to - from) words new) i 0 ≡ getD words i 0
+      put-outside i out = ⊎-elim (put-before i) (put-after i) out
+
       pub put-length : length (putMid from (to - from) words new) ≡ length words
       put-length = same-len-mid from (to - from) words new (sized ∙ sym part-length)
+
+-- ---- the words of a row
+
+pub begins-none : (f : ℕ → ℕ) (start : List ℕ) → Begins 0 f start start
+begins-none f start = record { sized = refl; each = λ j h. absurd (omega arith); rest = λ j h. refl }
+
+module _ {f : ℕ → ℕ} {start words : List ℕ} {i : ℕ} (s : Begins i f start words) where
+  pub begins-more : i < length start → {v : ℕ} → v ≡ f i → Begins (i + 1) f start (set words i v)
+  begins-more h {v} e = record {
+    sized = simp length-set (s .sized);
+    each = λ j hj. elim (eq-or-lt-of-le hj) [
+      | inl q ↦
+          let same : j ≡ i = omega arith in
+          rw same (getD-set-same words i v 0 (omega (arith, s .sized)) ∙ e)
+      | inr l ↦ getD-set-other words i j v 0 (λ same. omega arith) ∙ s .each j (omega arith)
+    ];
+    rest = λ j hj. getD-set-other words i j v 0 (λ same. omega arith) ∙ s .rest j (omega arith);
+  }
+
+  pub begins-all : {n : ℕ} → i ≤ n → n ≤ i → Begins n f start words
+  begins-all within all = record { sized = s .sized; each = λ j h. s .each j (omega arith); rest = λ j h. s .rest j (omega arith) }
 
 -- ---- the rows of a table
 
@@ -88,27 +110,46 @@ module _ {count n : ℕ} {F : ℕ → ℕ → ℕ} {start words : List ℕ} {i a
   pub filling-at : i < count → (b : ℕ) → b < n → getD (take (at + n - at) (drop at words)) b 0 ≡ entry n start i b
   filling-at h b hb = part-at words at (at + n) (omega arith) (filling-room h) b (omega arith) ∙ rw (s .place) (s .left i b (omega arith) h hb)
 
+  -- row i has the words of `F`, and no word outside it has changed
+  filling-next : i < count → {after : List ℕ} → length after ≡ length words → ((b : ℕ) → b < n → getD after (at + b) 0 ≡ F i b) →
+      ((x : ℕ) → (x < at) ⊎ (at + n ≤ x) → getD after x 0 ≡ getD words x 0) → Filling count n F start after (i + 1) (at + n)
+  filling-next h long own others = record {
+    fits = s .fits;
+    sized = long ∙ s .sized;
+    within = omega arith;
+    place = rw (add-one, mul-suc, s .place);
+    done = λ a b ha hb. elim (eq-or-lt-of-le ha) [
+      | inl q ↦
+          let same : a ≡ i = omega arith in
+          rw (same, ← s .place) (own b hb)
+      | inr l ↦
+          let above : a < i = omega arith in
+          others (n * a + b) (inl (omega (arith, rows-apart n above, s .place))) ∙ s .done a b above hb
+    ];
+    left = λ a b ha hn hb.
+        let below : i < a = omega arith in
+        others (n * a + b) (inr (omega (arith, rows-apart n below, s .place))) ∙ s .left a b (omega arith) hn hb;
+  }
+
   pub filling-step : i < count → {new : List ℕ} → RowIs n (F i) new → Filling count n F start (putMid at (at + n - at) words new) (i + 1) (at + n)
   filling-step h {new} f =
       let inside = filling-room h in
       let sized : length new ≡ at + n - at = omega (arith, f .sized) in
-      record {
-        fits = s .fits;
-        sized = put-length words at (at + n) (omega arith) inside new sized ∙ s .sized;
-        within = omega arith;
-        place = rw (add-one, mul-suc, s .place);
-        done = λ a b ha hb. elim (eq-or-lt-of-le ha) [
-          | inl q ↦
-              let same : a ≡ i = omega arith in
-              rw (same, ← s .place) (put-at words at (at + n) (omega arith) inside new sized b (omega arith) ∙ f .each b hb)
-          | inr l ↦
-              let above : a < i = omega arith in
-              put-before words at (at + n) (omega arith) inside new (n * a + b) (omega (arith, rows-apart n above, s .place)) ∙ s .done a b above hb
-        ];
-        left = λ a b ha hn hb.
-            let below : i < a = omega arith in
-            put-after words at (at + n) (omega arith) inside new sized (n * a + b) (omega (arith, rows-apart n below, s .place)) ∙ s .left a b (omega arith) hn hb;
-      }
+      filling-next h (put-length words at (at + n) (omega arith) inside new sized)
+      (λ b hb. put-at words at (at + n) (omega arith) inside new sized b (omega arith) ∙ f .each b hb)
+      (put-outside words at (at + n) (omega arith) inside new sized)
+
+  -- one word of row i is written, and the others have the words of `F` from the start
+  pub filling-one : i < count → (j : ℕ) → j < n → {v : ℕ} → v ≡ F i j → ((b : ℕ) → b < n → b ≢ j → entry n start i b ≡ F i b) → Filling count n F start (set words (at + j) v) (i + 1) (at + n)
+  filling-one h j hj {v} e kept =
+      filling-next h (length-set words (at + j) v) (λ b hb. own b hb (ℕ-discrete b j))
+      (λ x out. getD-set-other words (at + j) x v 0 (λ same. ⊎-elim (λ below. omega arith) (λ above. omega arith) out))
+    where
+      own : (b : ℕ) → b < n → Dec (b ≡ j) → getD (set words (at + j) v) (at + b) 0 ≡ F i b
+      own b hb (yes same) = rw same (getD-set-same words (at + j) v 0 (omega (arith, filling-room h)) ∙ e)
+      own b hb (no other) =
+          getD-set-other words (at + j) (at + b) v 0 (λ same. other (omega arith))
+          ∙ rw (s .place) (s .left i b (omega arith) h hb ∙ kept b hb other)
 
 -- ---- one node tried
 
@@ -119,15 +160,13 @@ module _ {n k : ℕ} {start words : List ℕ} {i at : ℕ} (s : Filling n n (thr
       pub relax-fits : length (take (at + n - at) (drop at words)) ≤ length row
       relax-fits = omega (arith, filling-length s hi, copied .fits)
 
-      pub relaxed-row : {new : List ℕ} → new ≡ relaxRow (getD words (at + k) 0) (take (at + n - at) (drop at words)) row →
+      pub relaxed-row : {new : List ℕ} →
+          Begins (length (take (at + n - at) (drop at words))) (λ j. min (getD (take (at + n - at) (drop at words)) j 0) (getD words (at + k) 0 + getD row j 0)) (take (at + n - at) (drop at words)) new →
           RowIs n (through k (entry n start) i) new
       unfolding through
       relaxed-row e = record {
-        sized = ap length e ∙ relaxed-length _ (take (at + n - at) (drop at words)) row ∙ filling-length s hi;
-        each = λ b hb.
-            ap (λ (l : List ℕ). getD l b 0) e
-            ∙ relaxed-at _ (take (at + n - at) (drop at words)) row b (omega (arith, filling-length s hi)) (omega (arith, copied .fits))
-            ∙ rw (filling-at s hi b hb, copied .each b hb, s .place, s .left i k (omega arith) hi hk);
+        sized = e .sized ∙ filling-length s hi;
+        each = λ b hb. e .each b (omega (arith, filling-length s hi)) ∙ rw (filling-at s hi b hb, copied .each b hb, s .place, s .left i k (omega arith) hi hk);
       }
 
 -- the row that is copied first
@@ -138,56 +177,22 @@ module _ {n k : ℕ} (words : List ℕ) (hk : k < n) (fits : n * n ≤ length wo
   pub copy-length : length (take (n * k + n - n * k) (drop (n * k) words)) ≡ n
   copy-length = part-length words (n * k) (n * k + n) (omega arith) copy-room ∙ omega arith
 
-  pub copy-starts : (row : List ℕ) → n ≤ length row →
-      take (length (take (n * k + n - n * k) (drop (n * k) words))) row ≡ take (n * k + n - n * k) (drop (n * k) words) → StartsWith n k words row
+  pub copy-starts : {before : List ℕ} (row : List ℕ) → n ≤ length row →
+      Begins (length (take (n * k + n - n * k) (drop (n * k) words))) (λ j. getD (take (n * k + n - n * k) (drop (n * k) words)) j 0) before row → StartsWith n k words row
   copy-starts row wide e = record {
     fits = wide;
-    each = λ j hj.
-        sym (getD-take (length (take (n * k + n - n * k) (drop (n * k) words))) row j 0 (omega (arith, copy-length)))
-        ∙ ap (λ (l : List ℕ). getD l j 0) e
-        ∙ part-at words (n * k) (n * k + n) (omega arith) copy-room j (omega arith);
+    each = λ j hj. e .each j (omega (arith, copy-length)) ∙ part-at words (n * k) (n * k + n) (omega arith) copy-room j (omega arith);
   }
 
 -- ---- a table blanked
 
--- the first i words are those of `f`
-pub record Writing (f : ℕ → ℕ) (start words : List ℕ) (i : ℕ) : Type 0 where
-  pub sized : length words ≡ length start
-  pub done : (j : ℕ) → j < i → getD words j 0 ≡ f j
-
-pub writing-first : (f : ℕ → ℕ) (start : List ℕ) → Writing f start start 0
-writing-first f start = record { sized = refl; done = λ j h. absurd (omega arith) }
-
-module _ {f : ℕ → ℕ} {start words : List ℕ} {i : ℕ} (s : Writing f start words i) where
-  pub writing-step : i < length start → {v : ℕ} → v ≡ f i → Writing f start (set words i v) (i + 1)
-  writing-step h {v} e = record {
-    sized = simp length-set (s .sized);
-    done = λ j hj. elim (eq-or-lt-of-le hj) [
-      | inl q ↦
-          let same : j ≡ i = omega arith in
-          rw same (getD-set-same words i v 0 (omega (arith, s .sized)) ∙ e)
-      | inr l ↦ getD-set-other words i j v 0 (λ same. omega arith) ∙ s .done j (omega arith)
-    ];
-  }
-
--- 0 stands at the first i nodes of the diagonal, FAR elsewhere
-pub record Zeroing (n : ℕ) (start words : List ℕ) (i at : ℕ) : Type 0 where
-  pub fits : n * n ≤ length start
-  pub sized : length words ≡ length start
-  pub within : i ≤ n
-  pub place : at ≡ n * i
-  pub home : (a : ℕ) → a < i → entry n words a a ≡ 0
-  pub other : (a b : ℕ) → a < n → b < n → (a ≡ b → a < i → ⊥) → entry n words a b ≡ 4294967295
-
-pub zeroing-first : (n : ℕ) (start words : List ℕ) → n * n ≤ length start → Whole (λ j. 4294967295) start words → Zeroing n words words 0 0
-zeroing-first n start words fits far = record {
-  fits = omega (arith, far .sized);
-  sized = refl;
-  within = omega arith;
-  place = sym (mul-zero n);
-  home = λ a h. absurd (omega arith);
-  other = λ a b ha hb _. far .each (n * a + b) (omega (arith, rows-apart n ha));
-}
+module _ {n : ℕ} {start words : List ℕ} {i at : ℕ} (s : Filling n n blank start words i at) where
+  -- 0 is written on the diagonal, where FAR stands everywhere at the start
+  pub blanked-row : i < n → {before : List ℕ} → Begins (length before) (λ j. 4294967295) before start → Filling n n blank start (set words (at + i) 0) (i + 1) (at + n)
+  unfolding blank
+  blanked-row h far =
+      filling-one s h i h (rw (eq-eqb i i refl))
+      (λ b hb other. rw (ne-eqb i b (λ same. other (sym same))) (far .each (n * i + b) (omega (arith, rows-apart n h, s .fits, far .sized))))
 
 -- places in two rows differ, and two places in one row
 pub places-differ : (n a b i j : ℕ) → b < n → j < n → n * a + b ≡ n * i + j → (a ≡ i) × (b ≡ j)
@@ -205,39 +210,6 @@ places-differ n a b i j hb hj e = elim (order a i) [
       ]
     ]
 
-module _ {n : ℕ} {start words : List ℕ} {i at : ℕ} (s : Zeroing n start words i at) where
-  pub zeroing-room : i < n → at + i < length words
-  zeroing-room h = omega (arith, rows-apart n h, s .place, s .fits, s .sized)
-
-  pub zeroing-step : i < n → Zeroing n start (set words (at + i) 0) (i + 1) (at + n)
-  zeroing-step h = record {
-    fits = s .fits;
-    sized = simp length-set (s .sized);
-    within = omega arith;
-    place = rw (add-one, mul-suc, s .place);
-    home = λ a ha. elim (eq-or-lt-of-le ha) [
-      | inl q ↦
-          let same : a ≡ i = omega arith in
-          rw (same, ← s .place) (getD-set-same words (at + i) 0 0 (zeroing-room h))
-      | inr l ↦
-          let above : a < i = omega arith in
-          getD-set-other words (at + i) (n * a + a) 0 0 (λ same. omega (arith, places-differ n i i a a h (omega arith) (rw (← s .place) (sym same)) .0)) ∙ s .home a above
-    ];
-    other = λ a b ha hb apart.
-        getD-set-other words (at + i) (n * a + b) 0 0 (λ same. let e = places-differ n i i a b h hb (rw (← s .place) (sym same)) in apart (omega (arith, e .0, e .1)) (omega (arith, e .0)))
-        ∙ s .other a b ha hb (λ e less. apart e (omega arith));
-  }
-
-  pub zeroing-done : n ≤ i → Holds n n words blank
-  unfolding blank
-  zeroing-done h = record {
-    sized = omega (arith, s .fits, s .sized);
-    each = λ a b ha hb. elim (ℕ-discrete a b) [
-      | yes same ↦ rw (eq-eqb a b same) (rw (← same) (s .home a (omega arith)))
-      | no other ↦ rw (ne-eqb a b other) (s .other a b ha hb (λ e _. other e))
-    ];
-  }
-
 -- ---- a table that is lent and put back
 
 module _ (mem : List ℕ) (at n : ℕ) (T : (ℕ → ℕ → ℕ) → ℕ → ℕ → ℕ) (fits : at + n * n ≤ length mem) (new : List ℕ)
@@ -250,10 +222,7 @@ module _ (mem : List ℕ) (at n : ℕ) (T : (ℕ → ℕ → ℕ) → ℕ → �
 
   pub becomes : ((i j : ℕ) → i < n → j < n → entry n new i j ≡ T (λ a b. getD mem (at + (n * a + b)) 0) i j) → Becomes at n T mem (putMid at (at + n * n - at) mem new)
   becomes each = record {
-    outside = λ x out. ⊎-elim
-        (λ below. put-before mem at (at + n * n) (omega arith) fits new x below)
-        (λ above. put-after mem at (at + n * n) (omega arith) fits new (sized ∙ lent) x above)
-        out;
+    outside = put-outside mem at (at + n * n) (omega arith) fits new (sized ∙ lent);
     each = λ i j hi hj. put-at mem at (at + n * n) (omega arith) fits new (sized ∙ lent) (n * i + j) (omega (arith, rows-apart n hi)) ∙ each i j hi hj;
   }
 

@@ -29,10 +29,11 @@ pub record RowIs (n : ℕ) (f : ℕ → ℕ) (row : List ℕ) : Type 0 where
   pub sized : length row ≡ n
   pub each : (j : ℕ) → j < n → getD row j 0 ≡ f j
 
--- every word has become that of `f`
-pub record Whole (f : ℕ → ℕ) (before after : List ℕ) : Type 0 where
+-- the first n words have become those of `f`, and the others are as before
+pub record Begins (n : ℕ) (f : ℕ → ℕ) (before after : List ℕ) : Type 0 where
   pub sized : length after ≡ length before
-  pub each : (j : ℕ) → j < length before → getD after j 0 ≡ f j
+  pub each : (j : ℕ) → j < n → getD after j 0 ≡ f j
+  pub rest : (j : ℕ) → n ≤ j → getD after j 0 ≡ getD before j 0
 
 -- `row` starts with the words of row k
 pub record StartsWith (n k : ℕ) (words row : List ℕ) : Type 0 where

@@ -2,9 +2,8 @@
 // anywhere in a memory, and leaves all other words.
 ghost use mathlib.Core.Path.{_≡_};
 ghost use Prim.Native.Nat.{_+_, _*_, _≤_, _<_, min};
-ghost use lib.ListN.{length, take};
-ghost use Rattle.table_rows.specs.Relax.{relaxRow};
-ghost use Rattle.table_rows.specs.Flat.{entry, through, blank, Holds, StartsWith, Whole, Tried, Blanked};
+ghost use lib.ListN.{length, getD};
+ghost use Rattle.table_rows.specs.Flat.{entry, through, blank, Holds, StartsWith, Begins, Tried, Blanked};
 use cells::wide;
 
 // The lesser of `t` and `x + d`, which is added only where it fits.
@@ -22,7 +21,7 @@ fn lesser(t: u32, x: u32, d: u32) -> u32
 // The row `best` relaxed by `row`, which stands `x` away. Where that is no way, nothing is gained.
 fn relax_row(best: &mut [u32], row: &[u32], x: u32)
     requires { ⌜ length (now best) ≤ length (now row) ⌝ }
-    ensures { λ r. ⌜ now (best .exit) ≡ relaxRow x (now (best .entry)) (now (row .entry)) ⌝ }
+    ensures { λ r. ⌜ Begins (length (now (best .entry))) (λ j. min (getD (now (best .entry)) j 0) (x + getD (now (row .entry)) j 0)) (now (best .entry)) (now (best .exit)) ⌝ }
 {
     if x == 4294967295 {
         return;
@@ -38,7 +37,7 @@ fn relax_row(best: &mut [u32], row: &[u32], x: u32)
 // The first words of `row` are those of `from`.
 fn copy(row: &mut [u32], from: &[u32])
     requires { ⌜ length (now from) ≤ length (now row) ⌝ }
-    ensures { λ r. ⌜ take (length (now (from .entry))) (now (row .exit)) ≡ now (from .entry) ⌝ }
+    ensures { λ r. ⌜ Begins (length (now (from .entry))) (λ j. getD (now (from .entry)) j 0) (now (row .entry)) (now (row .exit)) ⌝ }
 {
     let n = from.len();
     let mut i = 0;
@@ -77,7 +76,7 @@ fn try_table(table: &mut [u32], n: usize, k: usize)
 }
 
 fn fill_far(row: &mut [u32])
-    ensures { λ r. ⌜ Whole (λ j. 4294967295) (now (row .entry)) (now (row .exit)) ⌝ }
+    ensures { λ r. ⌜ Begins (length (now (row .entry))) (λ j. 4294967295) (now (row .entry)) (now (row .exit)) ⌝ }
 {
     let n = row.len();
     let mut i = 0;

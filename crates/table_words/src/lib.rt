@@ -2,7 +2,11 @@
 ghost use mathlib.Core.Path.{_≡_};
 ghost use Prim.Native.Nat.{ℕ, _+_, _*_, _≤_, _<_, min};
 ghost use lib.ListN.{getD};
+ghost use Rattle.roads.specs.Map.{Map, partCount};
+ghost use Rattle.parts.specs.Size.{sizeOf};
+ghost use Rattle.assembly.specs.Laid.{Laid};
 ghost use Rattle.assembly.specs.Lower.{lowered, leveled};
+ghost use Rattle.assembly.specs.Steps.{RowBelow};
 use cells::put;
 use cells::wide;
 use cells::word;
@@ -51,6 +55,33 @@ pub fn of_row(mem: &[u32], first: u32, i: u32, w: usize) -> u32
     ensures { λ r. ⌜ r ≡ getD (now (mem .entry)) (first + 4 * i + w) 0 ⌝ }
 {
     word(mem, wide(first) + 4 * wide(i) + w)
+}
+
+// The row of a row's vertex in the child that holds it: the child, 0 where none does, its size, where its rows and its table start, and the row.
+pub struct Below {
+    pub part: u32,
+    pub size: u32,
+    pub first: u32,
+    pub table: u32,
+    pub row: u32,
+}
+
+// That of row i of the rows that start at `first`.
+pub fn row_below(mem: &[u32], first: u32, i: u32) -> Below
+    ensures { λ r. ⌜ ((m : Map) (p : ℕ) → Laid m (now (mem .entry)) → p < partCount m → i < sizeOf m p → first ≡ getD (now (mem .entry)) (64 + 8 * p + 2) 0 → RowBelow m p i (r .part) (r .size) (r .first) (r .table) (r .row)) ⌝ }
+{
+    let part = part_of(of_row(mem, first, i, 2));
+    let size = of_part(mem, part, 1);
+    let start = of_part(mem, part, 2);
+    let table = of_part(mem, part, 3);
+    let row = place_of(of_row(mem, first, i, 3), start);
+    Below {
+        part: part,
+        size: size,
+        first: start,
+        table: table,
+        row: row,
+    }
 }
 
 fn lesser(x: u32, y: u32) -> u32

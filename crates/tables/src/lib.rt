@@ -18,9 +18,7 @@ use table_roads::take_roads;
 use table_rows::blank_at;
 use table_rows::try_at;
 use table_words::of_part;
-use table_words::of_row;
-use table_words::part_of;
-use table_words::place_of;
+use table_words::row_below;
 
 // Row k is tried, if it is marked as a halt.
 fn try_halt(mem: &mut [u32], marks: &[u32], table: u32, size: u32, k: u32)
@@ -78,15 +76,12 @@ fn enter_row(mem: &mut [u32], p: u32, i: u32)
     ensures { λ r. ⌜ length (now (mem .exit)) ≡ length (now (mem .entry)) ⌝ }
 {
     let first = of_part(mem, p, 2);
-    let c = part_of(of_row(mem, first, i, 2));
+    let b = row_below(mem, first, i);
+    let c = b.part;
     if c == 0 {
         return;
     }
-    let size_below = of_part(mem, c, 1);
-    let first_below = of_part(mem, c, 2);
-    let table_below = of_part(mem, c, 3);
-    let k = place_of(of_row(mem, first, i, 3), first_below);
-    try_at(mem, table_below, size_below, k);
+    try_at(mem, b.table, b.size, b.row);
 }
 
 fn enter_rows(mem: &mut [u32], p: u32)

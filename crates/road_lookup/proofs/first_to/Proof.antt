@@ -18,22 +18,13 @@ loop-holds : tie.Need-loop-holds Inv-loop μ-loop
 loop-holds c = at-start _ _ _ _
 
 loop-again : tie.Need-loop-again Inv-loop μ-loop
-loop-again c =
-    let a = c .before .before .before .before .before .args in
-    let l = c .before .before .before .loop in
-    go-up (endIn (a .mem .now) (a .counts)) (a .low) (a .high) (a .to) (l .from) (l .until) _ (l .inv) (omega arith) (omega arith) (omega (arith, c .before .road-end .ensures))
+loop-again c = go-up _ _ _ _ _ _ _ (c .before .before .before .loop .inv) (omega arith) (omega arith) (omega (arith, c .before .road-end .ensures))
 
 loop-again-2 : tie.Need-loop-again-2 Inv-loop μ-loop
-loop-again-2 c =
-    let a = c .before .before .before .before .before .args in
-    let l = c .before .before .before .loop in
-    go-down (endIn (a .mem .now) (a .counts)) (a .low) (a .high) (a .to) (l .from) (l .until) _ (l .inv) (omega arith) (omega arith) (omega (arith, c .before .road-end .ensures))
+loop-again-2 c = go-down _ _ _ _ _ _ _ (c .before .before .before .loop .inv) (omega arith) (omega arith) (omega (arith, c .before .road-end .ensures))
 
 returns : tie.Need-returns Inv-loop μ-loop
-returns c =
-    let a = c .before .before .before .args in
-    let l = c .before .loop in
-    at-end (endIn (a .mem .now) (a .counts)) (a .low) (a .high) (a .to) (l .from) (l .until) (l .inv) (omega arith)
+returns c = at-end _ _ _ _ _ _ (c .before .loop .inv) (omega arith)
 
 pub first-to-spec : {M : Type 1} → statement M
 first-to-spec =

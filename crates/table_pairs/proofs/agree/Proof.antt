@@ -4,7 +4,7 @@ use borrow.Author.Needs.{needs}
 use mathlib.Core.Path.{_≡_, refl}
 use Prim.Native.Nat.{_≤_, _-_}
 use lib.ListN.{length}
-use Rattle.assembly.proofs.Pairs.{RowsTo, agreed-first, rows-turn, rows-done}
+use Rattle.assembly.proofs.Pairs.{RowsTo, rows-first, rows-turn, rows-done}
 use Rattle.table_pairs.proofs.agree.Statement.{statement}
 use Rattle.table_pairs.proofs.agree.Tie as tie
 
@@ -15,7 +15,7 @@ abbrev μ-loop : tie.MeasureT-loop
 μ-loop mem₀ p size i₀ mem i = size - i
 
 loop-holds : tie.Need-loop-holds Inv-loop μ-loop
-loop-holds c = (search needs, refl, λ m low _ _ _. agreed-first m low _ _)
+loop-holds c = (search needs, refl, rows-first _ _)
 
 loop-again : tie.Need-loop-again Inv-loop μ-loop
 loop-again c = (search needs, search needs, rows-turn _ _ _ _ _ (search needs) (c .before .before .before .before .before .before .of-part .ensures) (c .before .before .before .before .before .loop .inv .2) (c .before .before .agree-row .ensures .0))

@@ -7,13 +7,12 @@ use Rattle.table_pairs.proofs.agree_row.Statement.{statement}
 use Rattle.table_pairs.proofs.agree_row.Tie as tie
 
 returns : tie.Need-returns
-returns c = (row-alone _ (c .before .before .before .before .before .before .of-part2 .ensures) (c .before .before .of-row .ensures) (c .before .part-of .ensures) (c .if1 .taken), refl)
+returns c = (λ m low L hl hp hi. row-alone (c .before .row-below .ensures m _ L hp hi (c .before .before .before .before .before .of-part2 .ensures)) (c .if1 .taken) low _, refl)
 
 returns-2 : tie.Need-returns-2
 returns-2 c = (
   λ m low L hl hp hi. c .before .before .level-row .ensures .0 m low _ _ L hl hp hi
-      (row-lines _ (c .before .before .before .before .before .before .before .before .before .before .before .before .before .before .before .before .before .before .before .before .before .of-part2 .ensures) (c .before .before .before .before .before .before .before .before .before .before .before .before .before .before .before .before .before .of-row .ensures) (c .before .before .before .before .before .before .before .before .before .before .before .before .before .before .before .before .part-of .ensures) (c .before .before .before .before .before .before .before .before .before .before .before .before .before .before .before .if1 .left) (c .before .before .before .before .before .before .before .before .before .before .before .of-part5 .ensures) (c .before .before .before .before .before .before .before .of-row2 .ensures) (c .before .before .before .before .before .before .place-of .ensures) m L hp hi
-      (c .before .before .before .before .before .before .before .before .before .before .before .before .before .before .before .before .before .before .before .before .before .before .before .of-part .ensures) (c .before .before .before .before .before .before .before .before .before .before .before .before .before .before .before .before .before .before .before .of-part3 .ensures) (c .before .before .before .before .before .before .before .before .before .before .before .before .before .of-part4 .ensures) (c .before .before .before .before .before .before .before .before .before .of-part6 .ensures) (c .before .before .before .before .before .line-of .ensures .0) (c .before .before .before .before .line-of2 .ensures .0)),
+      (row-lines (c .before .before .before .before .before .before .before .row-below .ensures m _ L hp hi (c .before .before .before .before .before .before .before .before .before .before .before .of-part2 .ensures)) (c .before .before .before .before .before .before .if1 .left) L hp (c .before .before .before .before .before .before .before .before .before .before .before .before .before .of-part .ensures) (c .before .before .before .before .before .before .before .before .before .before .before .of-part2 .ensures) (c .before .before .before .before .before .before .before .before .before .of-part3 .ensures) (c .before .before .before .before .before .line-of .ensures .0) (c .before .before .before .before .line-of2 .ensures .0)),
   c .before .before .level-row .ensures .1,
 )
 
@@ -26,13 +25,7 @@ agree-row-spec =
     (search needs)
     (search needs)
     (search needs)
-    (search needs)
     returns
-    (search needs)
-    (search needs)
-    (search needs)
-    (search needs)
-    (search needs)
     (search needs)
     (search needs)
     (search needs)

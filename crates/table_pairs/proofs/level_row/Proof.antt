@@ -15,7 +15,7 @@ abbrev μ-loop : tie.MeasureT-loop
 μ-loop mem₀ size first line c first-below line-below j₀ mem j = size - j
 
 loop-holds : tie.Need-loop-holds Inv-loop μ-loop
-loop-holds c = (search needs, refl, λ m low p i _ _ _ _ _. row-first m low p i _)
+loop-holds c = (search needs, refl, row-first _ _ _ _ _ _ _)
 
 loop-again : tie.Need-loop-again Inv-loop μ-loop
 loop-again c = (search needs, search needs, row-turn _ _ _ _ _ _ _ _ _ _ (search needs) (c .before .before .before .before .before .loop .inv .2) (c .before .before .level-pair .ensures .0))

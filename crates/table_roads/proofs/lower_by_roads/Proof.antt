@@ -2,7 +2,7 @@
 -- Assumes nothing.
 use borrow.Author.Needs.{needs}
 use mathlib.Core.Path.{_≡_, refl, _∙_}
-use Prim.Native.Nat.{_≤_, _-_}
+use Prim.Native.Nat.{_-_}
 use lib.ListN.{length}
 use Rattle.assembly.proofs.Roads.{RoadsTo, roads-first, roads-turn, roads-done}
 use Rattle.table_roads.proofs.lower_by_roads.Statement.{statement}

@@ -20,9 +20,6 @@ returns c = rw (← c .before .before .before .before .before .before .wide2 .en
 returns-2 : tie.Need-returns-2
 returns-2 c = record { sized = refl; blanked = λ _ fits. absurd (omega (arith, ap (λ (s : ℕ). s * s) (c .before .before .before .wide .ensures))) }
 
-returns-3 : tie.Need-returns-3
-returns-3 c = search needs
-
 pub blank-at-spec : {M : Type 1} → statement M
 blank-at-spec =
     tie.close
@@ -39,4 +36,4 @@ blank-at-spec =
     (search needs)
     returns
     returns-2
-    returns-3)
+    (search needs))

@@ -1,29 +1,34 @@
--- `table_rows::relax_row` meets its contract. The loop's invariant: the words that are left give what all were to give.
+-- `table_rows::relax_row` meets its contract. The loop's invariant: the words passed are relaxed, the others as before.
 -- Assumes nothing.
 use borrow.Author.Needs.{needs}
 use native.Mathlib.Omega.{arith}
-use Prim.Native.Nat.{_-_}
-use Rattle.table_rows.proofs.Relaxing.{relaxed-far, Left, left-first, left-step, left-none}
+use mathlib.Core.Path.{refl}
+use Prim.Native.Nat.{_+_, _-_, _≤_, min}
+use lib.ListN.{getD}
+use Rattle.table_rows.specs.Flat.{Begins}
+use Rattle.table_rows.proofs.Rows.{begins-none, begins-more, begins-all}
 use Rattle.table_rows.proofs.relax_row.Statement.{statement}
 use Rattle.table_rows.proofs.relax_row.Tie as tie
 
 abbrev Inv-loop : tie.InvT-loop
-Inv-loop best₀ row x n i₀ best i = Left x row best₀ best i
+Inv-loop best₀ row x n i₀ best i = (i ≤ n) × Begins i (λ j. min (getD best₀ j 0) (x + getD row j 0)) best₀ best
 
 abbrev μ-loop : tie.MeasureT-loop
 μ-loop best₀ row x n i₀ best i = n - i
 
 returns : tie.Need-returns Inv-loop μ-loop
-returns c = rw (c .if1 .taken) (relaxed-far _ _ (λ j. omega (arith, c .before .before .slice-known .given j)))
+returns c = record { sized = refl; each = λ j h. omega (arith, c .if1 .taken, c .before .before .slice-known .given j); rest = λ j h. refl }
 
 loop-holds : tie.Need-loop-holds Inv-loop μ-loop
-loop-holds c = left-first _ _ _
+loop-holds c = (search needs, begins-none _ _)
 
 loop-again : tie.Need-loop-again Inv-loop μ-loop
-loop-again c = left-step (c .before .before .before .before .loop .inv) (search needs) (search needs) (c .lesser .ensures)
+loop-again c =
+    let passed = c .before .before .before .before .loop .inv .1 in
+    (search needs, begins-more passed (search needs) (omega (arith, c .lesser .ensures, passed .rest (c .before .before .before .before .loop .i) (omega arith))))
 
 returns-2 : tie.Need-returns-2 Inv-loop μ-loop
-returns-2 c = left-none (c .before .loop .inv) (search needs)
+returns-2 c = begins-all (c .before .loop .inv .1) (search needs) (search needs)
 
 pub relax-row-spec : {M : Type 1} → statement M
 relax-row-spec =

@@ -20,12 +20,6 @@ returns c = rw (← c .before .before .before .before .before .before .before .w
 returns-2 : tie.Need-returns-2
 returns-2 c = record { sized = refl; tried = λ _ _ fits. absurd (omega (arith, ap (λ (s : ℕ). s * s) (c .before .before .before .before .before .wide .ensures))) }
 
-returns-3 : tie.Need-returns-3
-returns-3 c = search needs
-
-returns-4 : tie.Need-returns-4
-returns-4 c = search needs
-
 pub try-at-spec : {M : Type 1} → statement M
 try-at-spec =
     tie.close
@@ -43,5 +37,5 @@ try-at-spec =
     (search needs)
     returns
     returns-2
-    returns-3
-    returns-4)
+    (search needs)
+    (search needs))

@@ -40,7 +40,7 @@ relax-row-requires c κs = relax-fits (c .before .before .before .loop .inv) (se
 loop-again : tie.Need-loop-again Inv-loop μ-loop
 loop-again c =
     let inv = c .before .before .before .before .before .before .loop .inv in
-    filling-step inv (search needs) (relaxed-row inv (search needs) (search needs) (search needs) (c .before .before .relax-row .ensures))
+    filling-step inv (search needs) (relaxed-row inv (search needs) (search needs) (c .before .before .before .before .before .before .before .before .before .pre .2) (c .before .before .relax-row .ensures))
 
 returns : tie.Need-returns Inv-loop μ-loop
 returns c = filled (c .before .loop .inv) (search needs)

@@ -24,9 +24,6 @@ copy-requires c κs = omega (arith, copy-length (c .before .before .before .befo
 try-node-requires : tie.Need-try-node-requires
 try-node-requires c κs = (search needs, search needs, copy-starts (c .before .before .before .before .before .before .before .before .args .table .now) (c .before .before .before .before .before .before .before .before .pre .0) (c .before .before .before .before .before .before .before .before .pre .2) _ (search needs) (c .before .before .before .copy .ensures))
 
-returns : tie.Need-returns
-returns c = search needs
-
 pub try-table-spec : {M : Type 1} → statement M
 try-table-spec =
     tie.close
@@ -42,4 +39,4 @@ try-table-spec =
     (search needs)
     try-node-requires
     (search needs)
-    returns)
+    (λ c. search needs))

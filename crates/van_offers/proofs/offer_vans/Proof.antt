@@ -1,11 +1,8 @@
 -- `offer_vans` offers the vans of the list, one after the other: what is left from here gives what was left at the start.
 -- Assumes nothing.
-use mathlib.Core.Path.{_≡_, refl, sym, subst, _∙_, ap}
-use mathlib.Core.List.{List}
+use mathlib.Core.Path.{_≡_, refl, sym, subst}
 use Prim.Native.Nat.{ℕ, _≤_, _<_}
 use native.Mathlib.Omega.{arith}
-use Rattle.words.specs.Limits.{FAR}
-use Rattle.fleet.specs.Question.{Listed}
 use Rattle.best_list.specs.Best.{entries, offeredAll}
 use Rattle.van_offers.specs.Offers.{stampIn, vanOffers}
 use Rattle.van_offers.proofs.Steps.{vans-beyond, vans-end, vans-out, vans-again}

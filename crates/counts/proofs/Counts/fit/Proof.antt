@@ -1,6 +1,6 @@
 -- `Counts::fit` is the test `countsFit`.
 -- Assumes nothing.
-use mathlib.Core.Path.{_≡_, sym, _∙_, ap, ap₂}
+use mathlib.Core.Path.{sym, _∙_, ap, ap₂}
 use mathlib.Core.Bool.{Bool, _&&_}
 use lib.Dec.{leb}
 use borrow.Author.Needs.{needs}

@@ -1,0 +1,22 @@
+-- `table_words::row_below` meets its contract.
+-- Assumes nothing.
+use borrow.Author.Needs.{needs}
+use Rattle.assembly.proofs.Shown.{below-shown}
+use Rattle.table_words.proofs.row_below.Statement.{statement}
+use Rattle.table_words.proofs.row_below.Tie as tie
+
+returns : tie.Need-returns
+returns c = below-shown _ (c .before .before .before .before .before .before .of-row .ensures) (c .before .before .before .before .before .part-of .ensures) (c .before .before .before .before .of-part .ensures) (c .before .before .before .of-part2 .ensures) (c .before .before .of-part3 .ensures) (c .before .of-row2 .ensures) (c .place-of .ensures)
+
+pub row-below-spec : {M : Type 1} → statement M
+row-below-spec =
+    tie.close
+    (tie.spec
+    (search needs)
+    (search needs)
+    (search needs)
+    (search needs)
+    (search needs)
+    (search needs)
+    (search needs)
+    returns)
