@@ -13,7 +13,7 @@ use Rattle.words.specs.Lists.{upTo, word, all, keep}
 use Rattle.words.specs.Tests.{within}
 use Rattle.words.proofs.Lists.{countFrom-below, upTo-has, all-at, keep-same}
 use Rattle.words.proofs.Tested.{all-both, all-counted}
-use Rattle.roads.specs.Map.{Map, partCount}
+use Rattle.roads.specs.Map.{Map}
 use Rattle.parts.specs.Tree.{parentOf, leafOf, climb, upward, level, children, isLeaf, verticesOf}
 use Rattle.maps.specs.Rules.{rootFits, parentFits, familyFits, levelFits, standsInLeaf, partsFit}
 use Rattle.map_bytes.specs.Each.{eachFrom}
