@@ -16,17 +16,4 @@ abbrev μ-loop : tie.MeasureT-loop
 
 pub sizes-fit-spec : {M : Type 1} → statement M
 unfolding fewAt
-sizes-fit-spec =
-    tie.close
-    (tie.spec
-    Inv-loop
-    μ-loop
-    (search tests)
-    (search needs)
-    (search needs)
-    (search needs)
-    (λ c. search (tests, lt-leb))
-    (search needs)
-    (search needs)
-    (λ c. search (tests, le-leb))
-    (λ c. search tests))
+sizes-fit-spec = tie.close (tie.spec Inv-loop μ-loop (search tests) (search needs) (search needs) (search needs) (λ c. search (tests, lt-leb)) (search needs) (search needs) (λ c. search (tests, le-leb)) (λ c. search tests))

@@ -14,15 +14,4 @@ abbrev μ-loop : tie.MeasureT-loop
 μ-loop parents children homes parts p₀ p = parts - p
 
 pub tree-fits-spec : {M : Type 1} → statement M
-tree-fits-spec =
-    tie.close
-    (tie.spec
-    Inv-loop
-    μ-loop
-    (search tests)
-    (search needs)
-    (λ c. search tests)
-    (search needs)
-    (search needs)
-    (λ c. search tests)
-    (λ c. search tests))
+tree-fits-spec = tie.close (tie.spec Inv-loop μ-loop (search tests) (search needs) (λ c. search tests) (search needs) (search needs) (λ c. search tests) (λ c. search tests))

@@ -13,15 +13,4 @@ abbrev μ-loop : tie.MeasureT-loop
 μ-loop mem vertices-at n roads-at count j₀ j = count - j
 
 pub roads-laid-spec : {M : Type 1} → statement M
-roads-laid-spec =
-    tie.close
-    (tie.spec
-    Inv-loop
-    μ-loop
-    (search tests)
-    (search needs)
-    (λ c. search tests)
-    (search needs)
-    (search needs)
-    (λ c. search tests)
-    (λ c. search tests))
+roads-laid-spec = tie.close (tie.spec Inv-loop μ-loop (search tests) (search needs) (λ c. search tests) (search needs) (search needs) (λ c. search tests) (λ c. search tests))

@@ -13,15 +13,4 @@ abbrev μ-loop : tie.MeasureT-loop
 μ-loop mem vertices-at n count v₀ v = n - v
 
 pub vertices-laid-spec : {M : Type 1} → statement M
-vertices-laid-spec =
-    tie.close
-    (tie.spec
-    Inv-loop
-    μ-loop
-    (search tests)
-    (search needs)
-    (λ c. search tests)
-    (search needs)
-    (search needs)
-    (λ c. search tests)
-    (λ c. search tests))
+vertices-laid-spec = tie.close (tie.spec Inv-loop μ-loop (search tests) (search needs) (λ c. search tests) (search needs) (search needs) (λ c. search tests) (λ c. search tests))
