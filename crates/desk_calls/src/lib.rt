@@ -1,9 +1,14 @@
-// What the desk program does with a call once it is read: each change makes its own call of the core and gets its line, and each van of a question's
-// list gets its line.
+// What the desk program does but for reading and writing: each change makes its own call of the core and gets its line, each van of a question's
+// list gets its line, and the opening and each call are a step.
+mod steps;
+
 use answers::Reply;
 use cells::word;
 use desk_lines::Line;
 use fleet::Change;
+pub use steps::Step;
+pub use steps::begin;
+pub use steps::turn;
 ghost use mathlib.Core.Path.{_≡_};
 ghost use Prim.Native.Nat.{_<_};
 ghost use Rattle.answers.specs.Answered.{answered};

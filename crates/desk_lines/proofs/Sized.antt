@@ -34,6 +34,13 @@ sized-no len body call other = sym (ap (λ (fits : Bool). cond fits (Is call) Re
 pub sized-yes : (len : ℕ) (body : List ℕ) (shown call : Call) → length body ≡ len → shown ≡ call → Is shown ≡ sized len body call
 sized-yes len body shown call same e = ap Is e ∙ sym (ap (λ (fits : Bool). cond fits (Is call) Request.Bad) (eq-eqb (length body) len same))
 
+-- a body whose length is looked at, and then its fields
+pub ruleset sizes = (sized-no, sized-yes)
+
+-- a kind that is known
+pub call-as : {kind known : ℕ} (body : List ℕ) {request : Request} → kind ≡ known → request ≡ callOf known body → request ≡ callOf kind body
+call-as body is e = rw is e
+
 -- every other kind is bad
 module _ (kind : ℕ) (body : List ℕ) where
   other : (kind ≡ 16 → ⊥) → (kind ≡ 17 → ⊥) → (kind ≡ 18 → ⊥) → (kind ≡ 19 → ⊥) → (kind ≡ 20 → ⊥) → (kind ≡ 21 → ⊥) → Request.Bad ≡ callOf kind body

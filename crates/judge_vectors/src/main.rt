@@ -4,8 +4,8 @@
 use libc::STDOUT_FILENO;
 use map_judge::Judgement;
 use map_judge::judge_map;
-use packs::Entry;
-use packs::entry_at;
+use packs::item_at;
+use packs::read_file;
 ghost use Prim.Native.Nat.{_<_, _≤_};
 ghost use lib.ListN.{length};
 
@@ -36,13 +36,15 @@ fn judge_entry(pack: &[u8], at: usize) -> usize
     requires { ⌜ at < length (now pack) ⌝ }
     ensures { λ r. ⌜ (at < r) × (r ≤ length (now (pack .entry))) ⌝ }
 {
-    let entry = entry_at(pack, at);
-    if let Entry::Item { start, end } = entry {
+    let item = item_at(pack, at);
+    let start = item.start;
+    let end = item.end;
+    if item.whole {
         write_judgement(judge_map(&pack[start..end]));
-        return end;
+    } else {
+        io::write_all(STDOUT_FILENO, b" cut\n");
     }
-    io::write_all(STDOUT_FILENO, b" cut\n");
-    pack.len()
+    end
 }
 
 fn judge_pack(group: &[u8], pack: &[u8]) {
@@ -58,13 +60,7 @@ fn judge_pack(group: &[u8], pack: &[u8]) {
 
 fn judge_file(group: &[u8], path: &[u8]) {
     let mut pack = [0u8; 262144];
-    let file = os::open_read(path);
-    if file < 0 {
-        os::fail(path);
-        return;
-    }
-    let n = io::read_full(file, &mut pack);
-    libc::close(file);
+    let n = read_file(path, &mut pack);
     judge_pack(group, &pack[..n]);
 }
 

@@ -1,9 +1,10 @@
 -- A loop that tests each number below n, and stops at the first that fails.
 -- Assumes nothing.
 use mathlib.Core.Path.{_≡_, refl, sym, ap, ap₂, _∙_}
-use mathlib.Core.Bool.{Bool, true, false, _&&_}
+use mathlib.Core.Bool.{Bool, true, false, not, _&&_}
 use Prim.Native.Nat.{ℕ, suc, _+_, _-_, _<_, _≤_}
 use native.Mathlib.Omega.{arith}
+use borrow.Author.Tests.{not-true, not-false}
 use Rattle.words.specs.Lists.{countFrom, upTo, all}
 use Rattle.map_bytes.specs.Each.{eachFrom}
 
@@ -22,15 +23,25 @@ module _ {test : ℕ → Bool} {n : ℕ} where
   pub left-start : Left test n 0
   left-start = record { reached = omega arith; same = refl }
 
-  pub left-passed : (i : ℕ) → Left test n i → i < n → test i ≡ true → Left test n (i + 1)
-  left-passed i l h e = record { reached = omega arith; same = l .same ∙ some-left test n i h true e }
+  pub left-passed : {i : ℕ} → Left test n i → i < n → test i ≡ true → Left test n (i + 1)
+  left-passed {i} l h e = record { reached = omega arith; same = l .same ∙ some-left test n i h true e }
 
-  pub left-failed : (i : ℕ) → Left test n i → i < n → test i ≡ false → false ≡ eachFrom test 0 n
-  left-failed i l h e = sym (l .same ∙ some-left test n i h false e)
+  pub left-failed : {i : ℕ} → Left test n i → i < n → test i ≡ false → false ≡ eachFrom test 0 n
+  left-failed {i} l h e = sym (l .same ∙ some-left test n i h false e)
 
-  pub left-done : (i : ℕ) → Left test n i → n ≤ i → true ≡ eachFrom test 0 n
+  pub left-done : {i : ℕ} → Left test n i → n ≤ i → true ≡ eachFrom test 0 n
   unfolding eachFrom
-  left-done i l h = sym (l .same ∙ ap (λ (k : ℕ). all test (countFrom i k)) (let none : n - i ≡ 0 = omega arith in none))
+  left-done {i} l h = sym (l .same ∙ ap (λ (k : ℕ). all test (countFrom i k)) (let none : n - i ≡ 0 = omega arith in none))
+
+-- a test that a function answers
+pub said-passed : {said test : Bool} → said ≡ test → not said ≡ false → test ≡ true
+said-passed is e = sym is ∙ not-false _ e
+
+pub said-failed : {said test : Bool} → said ≡ test → not said ≡ true → test ≡ false
+said-failed is e = sym is ∙ not-true _ e
+
+-- what proves such a loop
+pub ruleset tests = (left-start, left-passed, left-failed, left-done, said-passed, said-failed)
 
 -- the whole test
 pub each-all : (test : ℕ → Bool) (n : ℕ) → eachFrom test 0 n ≡ all test (upTo n)

@@ -12,13 +12,13 @@ use Rattle.words.specs.Limits.{mostParts, fewestChildren, mostChildren, mostLev
 use Rattle.words.specs.Lists.{upTo, word, all, keep}
 use Rattle.words.specs.Tests.{within}
 use Rattle.words.proofs.Lists.{countFrom-below, upTo-has, all-at, keep-same}
-use Rattle.words.proofs.Tested.{all-counted}
-use Rattle.roads.specs.Map.{Map, partCount}
+use Rattle.words.proofs.Tested.{all-both, all-counted}
+use Rattle.roads.specs.Map.{Map}
 use Rattle.parts.specs.Tree.{parentOf, leafOf, climb, upward, level, children, isLeaf, verticesOf}
 use Rattle.maps.specs.Rules.{rootFits, parentFits, familyFits, levelFits, standsInLeaf, partsFit}
 use Rattle.map_bytes.specs.Each.{eachFrom}
 use Rattle.map_bytes.proofs.Each.{each-all}
-use Rattle.map_parts.specs.Part.{Shows, fallen, family, familyOf, near, standing}
+use Rattle.map_parts.specs.Part.{Shows, fallen, family, near, partTest, standing}
 use Rattle.map_parts.specs.Tally.{tallied, Tallied}
 
 fallen-lower : (parents : List ℕ) (p : ℕ) → fallen parents p ≡ true → eqb p 0 ≡ false → word parents p < p
@@ -76,34 +76,43 @@ module _ (m : Map) (parents leaves : List ℕ) (vertices parts : ℕ) (shows : S
   unfolding rootFits
   root-is some e = sym (ap (λ (p : ℕ). eqb p NONE) (shows .parent 0 some) ∙ e)
 
-  parents-are : {b : Bool} → eachFrom (fallen parents) 0 parts ≡ b → b ≡ all (parentFits m) (upTo parts)
+  -- each part's parent
+  parents-are : eachFrom (fallen parents) 0 parts ≡ all (parentFits m) (upTo parts)
   unfolding fallen parentFits
-  parents-are e = sym e ∙ each-is (fallen parents) (parentFits m) parts (λ p h. ap (λ (q : ℕ). eqb p 0 || ltb q p) (sym (shows .parent p h)))
+  parents-are = each-is (fallen parents) (parentFits m) parts (λ p h. ap (λ (q : ℕ). eqb p 0 || ltb q p) (sym (shows .parent p h)))
 
   pub no-root : 1 ≤ parts → eqb (word parents 0) NONE ≡ false → false ≡ partsFit m
   no-root some e = parts-by (root-is some e) refl refl refl refl
 
-  pub no-fall : 1 ≤ parts → eqb (word parents 0) NONE ≡ true → eachFrom (fallen parents) 0 parts ≡ false → false ≡ partsFit m
-  no-fall some root e = parts-by (root-is some root) (parents-are e) refl refl refl
-
   module _ (childCounts homeCounts : List ℕ) (counted : Tallied parents parts childCounts) (housed : Tallied leaves vertices homeCounts) (few : parts ≤ mostParts) where
-    pub parts-fit-is : {families levels stand : Bool} → 1 ≤ parts → eqb (word parents 0) NONE ≡ true → eachFrom (fallen parents) 0 parts ≡ true
-        → eachFrom (familyOf childCounts homeCounts) 0 parts ≡ families → eachFrom (near parents mostLevels) 0 parts ≡ levels
-        → eachFrom (standing leaves childCounts parts) 0 vertices ≡ stand
-        → (families && levels && stand) ≡ partsFit m
-    unfolding familyOf family familyFits isLeaf levelFits level upward standing standsInLeaf
-    parts-fit-is some root fall isFamilies isLevels isStand =
-        parts-by (root-is some root) (parents-are fall) (sym isFamilies ∙ each-is (familyOf childCounts homeCounts) (familyFits m) parts family-is)
-        (sym isLevels ∙ each-is (near parents mostLevels) (levelFits m) parts (λ p h. near-is falls mostLevels (suc p) p (omega arith) h))
-        (sym isStand ∙ each-is (standing leaves childCounts parts) (standsInLeaf m) vertices stands-is)
+    pub parts-fit-is : {tree stand : Bool} → 1 ≤ parts → eqb (word parents 0) NONE ≡ true → tree ≡ eachFrom (partTest parents childCounts homeCounts) 0 parts
+        → stand ≡ eachFrom (standing leaves childCounts parts) 0 vertices
+        → (tree && stand) ≡ partsFit m
+    unfolding partTest family familyFits isLeaf levelFits level upward standing standsInLeaf
+    parts-fit-is {stand = stand} some root isTree isStand =
+        ap (λ (b : Bool). b && stand) (isTree ∙ each-all (partTest parents childCounts homeCounts) parts ∙ sym apart ∙ high (all (fallen parents) (upTo parts)) refl)
+        ∙ parts-by (root-is some root) (sym (each-all (fallen parents) parts) ∙ parents-are) (all-counted fit (familyFits m) 0 parts (λ p low h. family-is p (omega arith))) refl
+        (isStand ∙ each-is (standing leaves childCounts parts) (standsInLeaf m) vertices stands-is)
       where
-        falls : (p : ℕ) → p < parts → fallen parents p ≡ true
-        falls p h = all-at (fallen parents) (upTo parts) (sym (each-all (fallen parents) parts) ∙ fall) p (upTo-has parts p h)
+        fit : ℕ → Bool
+        fit p = family (word childCounts p) (word homeCounts p)
+
+        -- the three tests of each part are a test of each part three times
+        apart : (all (fallen parents) (upTo parts) && all fit (upTo parts) && all (near parents mostLevels) (upTo parts)) ≡ all (partTest parents childCounts homeCounts) (upTo parts)
+        apart = ap (λ (b : Bool). b && all (near parents mostLevels) (upTo parts)) (all-both (fallen parents) fit (upTo parts)) ∙ all-both (λ p. fallen parents p && fit p) (near parents mostLevels) (upTo parts)
+
+        -- the level is looked at where each parent has a lower number
+        high : (fall : Bool) → all (fallen parents) (upTo parts) ≡ fall
+            → (fall && all fit (upTo parts) && all (near parents mostLevels) (upTo parts)) ≡ (fall && all fit (upTo parts) && all (levelFits m) (upTo parts))
+        high false e = refl
+        high true e =
+            ap (λ (b : Bool). all fit (upTo parts) && b)
+            (all-counted (near parents mostLevels) (levelFits m) 0 parts (λ p low h. near-is (λ q hq. all-at (fallen parents) (upTo parts) e q (upTo-has parts q hq)) mostLevels (suc p) p (omega arith) (omega arith)))
 
         childs : (p : ℕ) → p < parts → word childCounts p ≡ length (children m p)
         childs p h = counted .each p (omega arith) ∙ sym (children-are (eqb-true (word parents 0) NONE root) p (omega arith))
 
-        family-is : (p : ℕ) → p < parts → familyOf childCounts homeCounts p ≡ familyFits m p
+        family-is : (p : ℕ) → p < parts → fit p ≡ familyFits m p
         family-is p h =
             ap₂ (λ (c v : ℕ). cond (eqb c 0) (within 1 mostInLeaf v) (within fewestChildren mostChildren c)) (childs p h) (housed .each p (omega arith) ∙ sym (homes-are p))
 

@@ -4,7 +4,7 @@ use Prim.Native.Nat.{ℕ, zero, suc, _<_}
 use mathlib.Core.Bool.{Bool, false, _&&_, _||_, cond}
 use mathlib.Core.List.{List}
 use lib.Dec.{ltb, eqb}
-use Rattle.words.specs.Limits.{fewestChildren, mostChildren, mostInLeaf}
+use Rattle.words.specs.Limits.{fewestChildren, mostChildren, mostLevels, mostInLeaf}
 use Rattle.words.specs.Lists.{word}
 use Rattle.words.specs.Tests.{within}
 use Rattle.roads.specs.Map.{Map, partCount}
@@ -25,14 +25,14 @@ fallen parents p = eqb p 0 || ltb (word parents p) p
 unfoldable pub family : ℕ → ℕ → Bool
 family children homes = cond (eqb children 0) (within 1 mostInLeaf homes) (within fewestChildren mostChildren children)
 
--- the same of part p
-unfoldable pub familyOf : List ℕ → List ℕ → ℕ → Bool
-familyOf children homes p = family (word children p) (word homes p)
-
 -- part 0 is among the first n on the way up from part p
 unfoldable pub near : List ℕ → ℕ → ℕ → Bool
 near parents zero p = false
 near parents (suc n) p = eqb p 0 || near parents n (word parents p)
+
+-- what part p is tested for
+unfoldable pub partTest : List ℕ → List ℕ → List ℕ → ℕ → Bool
+partTest parents children homes p = fallen parents p && family (word children p) (word homes p) && near parents mostLevels p
 
 -- vertex v stands in a part without children
 unfoldable pub standing : List ℕ → List ℕ → ℕ → ℕ → Bool

@@ -8,7 +8,7 @@ ghost use Rattle.words.specs.Lists.{word};
 ghost use Rattle.roads.specs.Map.{Map};
 ghost use Rattle.maps.specs.Rules.{partsFit};
 ghost use Rattle.map_bytes.specs.Each.{eachFrom};
-ghost use Rattle.map_parts.specs.Part.{fallen, family, familyOf, near, standing, Shows};
+ghost use Rattle.map_parts.specs.Part.{fallen, family, near, partTest, standing, Shows};
 ghost use Rattle.map_parts.specs.Tally.{Tallied};
 
 // How many children a part has, and how many vertices stand in it.
@@ -76,39 +76,6 @@ fn parent_fits(parents: &[u32], p: u32) -> bool
     entry(parents, p) < p
 }
 
-fn parents_fit(parents: &[u32], parts: u32) -> bool
-    ensures { λ r. ⌜ r ≡ eachFrom (fallen (now (parents .entry))) 0 parts ⌝ }
-{
-    let mut p: u32 = 0;
-    while p < parts {
-        if !parent_fits(parents, p) {
-            return false;
-        }
-        p += 1;
-    }
-    true
-}
-
-// Each part is a leaf with 1 to 32 vertices, or has 2 to 8 children.
-fn families_fit(children: &[u32; 512], homes: &[u32; 512], parts: u32) -> bool
-    requires { ⌜ (length (now children) ≡ 512) × (length (now homes) ≡ 512) × (parts ≤ 512) ⌝ }
-    ensures { λ r. ⌜ r ≡ eachFrom (familyOf (now (children .entry)) (now (homes .entry))) 0 parts ⌝ }
-{
-    let mut p: u32 = 0;
-    while p < parts {
-        let at = p as usize;
-        let part = Part {
-            children: children[at],
-            vertices: homes[at],
-        };
-        if !part.fits() {
-            return false;
-        }
-        p += 1;
-    }
-    true
-}
-
 // The root is among the first 16 parts on the way up from p.
 fn near_root(parents: &[u32], p: u32) -> bool
     ensures { λ r. ⌜ r ≡ near (now (parents .entry)) 16 p ⌝ }
@@ -125,12 +92,33 @@ fn near_root(parents: &[u32], p: u32) -> bool
     false
 }
 
-fn levels_fit(parents: &[u32], parts: u32) -> bool
-    ensures { λ r. ⌜ r ≡ eachFrom (near (now (parents .entry)) 16) 0 parts ⌝ }
+// Part p is the root or its parent's number is lower, it is a leaf with 1 to 32 vertices or has 2 to 8 children, and its
+// level is 1 to 16.
+fn part_fits(parents: &[u32], children: &[u32; 512], homes: &[u32; 512], p: u32) -> bool
+    requires { ⌜ (length (now children) ≡ 512) × (length (now homes) ≡ 512) × (p < 512) ⌝ }
+    ensures { λ r. ⌜ r ≡ partTest (now (parents .entry)) (now (children .entry)) (now (homes .entry)) p ⌝ }
+{
+    if !parent_fits(parents, p) {
+        return false;
+    }
+    let at = p as usize;
+    let part = Part {
+        children: children[at],
+        vertices: homes[at],
+    };
+    if !part.fits() {
+        return false;
+    }
+    near_root(parents, p)
+}
+
+fn tree_fits(parents: &[u32], children: &[u32; 512], homes: &[u32; 512], parts: u32) -> bool
+    requires { ⌜ (length (now children) ≡ 512) × (length (now homes) ≡ 512) × (parts ≤ 512) ⌝ }
+    ensures { λ r. ⌜ r ≡ eachFrom (partTest (now (parents .entry)) (now (children .entry)) (now (homes .entry))) 0 parts ⌝ }
 {
     let mut p: u32 = 0;
     while p < parts {
-        if !near_root(parents, p) {
+        if !part_fits(parents, children, homes, p) {
             return false;
         }
         p += 1;
@@ -172,17 +160,11 @@ pub fn parts_fit(parents: &[u32], leaves: &[u32], vertices: u32, parts: u32) -> 
     if entry(parents, 0) != Part::NONE {
         return false;
     }
-    if !parents_fit(parents, parts) {
-        return false;
-    }
     let mut children: [u32; 512] = [0; 512];
     tally(parents, parts, &mut children);
     let mut homes: [u32; 512] = [0; 512];
     tally(leaves, vertices, &mut homes);
-    if !families_fit(&children, &homes, parts) {
-        return false;
-    }
-    if !levels_fit(parents, parts) {
+    if !tree_fits(parents, &children, &homes, parts) {
         return false;
     }
     vertices_stand(leaves, &children, parts, vertices)

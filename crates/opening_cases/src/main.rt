@@ -2,6 +2,7 @@
 // six words, chosen words, and a digest of all words lent. What a second program, written from the scope alone, makes of the same maps must come out.
 use libc::STDOUT_FILENO;
 use opening::open;
+use packs::read_file;
 ghost use Prim.Native.Nat.{_<_, _≤_};
 
 fn write_number(n: u64) {
@@ -61,14 +62,8 @@ fn write_case(name: &[u8], map: &[u8], start: u32, words: &mut [u32], from: usiz
 fn open_case(name: &[u8], path: &[u8], start: u32, lent: usize, from: usize, to: usize)
     requires { ⌜ lent ≤ 32768 ⌝ }
 {
-    let file = os::open_read(path);
-    if file < 0 {
-        os::fail(path);
-        return;
-    }
     let mut map = [0u8; 4096];
-    let n = io::read_full(file, &mut map);
-    libc::close(file);
+    let n = read_file(path, &mut map);
     let mut memory = [7u32; 32768];
     write_case(name, &map[..n], start, &mut memory[..lent], from, to);
 }

@@ -166,7 +166,7 @@ module _ (m : Map) (parents sizes : List ℕ) (parts tablesEnd rowsEnd : ℕ) (c
     unfolding partRecord
     sized = refl
 
-    pub parts-more : PartsStand m next mem₀ mem → PartsStand m p mem₀ mem′
+    parts-more : PartsStand m next mem₀ mem → PartsStand m p mem₀ mem′
     parts-more w =
         written-down partsAt 8 (partRecord m) p next (partCount m) mem₀ mem mem′ more here sized (omega (arith, ready .room, w .long, here)) w
         (stored ∙ ap (sets mem (64 + 8 * p)) same-record)
@@ -207,8 +207,9 @@ module _ (m : Map) (parents sizes : List ℕ) (parts tablesEnd rowsEnd : ℕ) (c
             not-both true b e = e
             not-both false b e = refl
 
-    pub families-more : Families m p cs′ table′ row′
-    families-more = record { first = first-now; table-at = table-is; row-at = row-is }
+    -- part p written
+    pub part-more : PartsStand m next mem₀ mem → Families m p cs′ table′ row′ × PartsStand m p mem₀ mem′
+    part-more w = (record { first = first-now; table-at = table-is; row-at = row-is }, parts-more w)
 
 -- Only the rows.
 module _ (m : Map) (sizes : List ℕ) (parts rowsEnd : ℕ) (given : Sized m sizes parts rowsEnd) where

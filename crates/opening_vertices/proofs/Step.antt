@@ -128,7 +128,7 @@ module _ (m : Map) (leaves body : List ℕ) (roads vertices base : ℕ) (ins pla
     unfolding freshVertex
     sized = refl
 
-    pub vertices-more : VerticesStand m v mem₀ mem → VerticesStand m (v + 1) mem₀ mem′
+    vertices-more : VerticesStand m v mem₀ mem → VerticesStand m (v + 1) mem₀ mem′
     vertices-more old =
         written-up (verticesAt m) 8 (freshVertex m) 0 v mem₀ mem mem′ (omega arith) sized (omega (arith, ready .room, old .long)) old
         (stored ∙ ap₂ (λ (k : ℕ) (l : List ℕ). sets mem (k + 8 * v) l) (ready .start) same-record)
@@ -156,7 +156,7 @@ module _ (m : Map) (leaves body : List ℕ) (roads vertices base : ℕ) (ins pla
             ∙ taken .place q in-room
             ∙ sym (rank-left (standsIn m q) v (ne-eqb (leafOf m v) q (λ e. other (sym e ∙ sym leaf-is))))
 
-    pub taken-more : Taken m (v + 1) places′ road′
+    taken-more : Taken m (v + 1) places′ road′
     taken-more =
         record {
           place = λ q k. places-now q k ∙ ap (rank (standsIn m q)) (let one : suc v ≡ v + 1 = omega arith in one);
@@ -169,3 +169,7 @@ module _ (m : Map) (leaves body : List ℕ) (roads vertices base : ℕ) (ins pla
             let most = skipped .most (omega (arith, taken .reached, ready .road-count)) in
             let less : roadAt m i .from < v = subst (λ (r : Road). r .from < v) (ready .roads-shown i (omega (arith, most, ready .road-count))) (skipped .passed i low k) in
             omega (arith, less)
+
+    -- vertex v written
+    pub vertex-more : VerticesStand m v mem₀ mem → Taken m (v + 1) places′ road′ × VerticesStand m (v + 1) mem₀ mem′
+    vertex-more old = (taken-more, vertices-more old)

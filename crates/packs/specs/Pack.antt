@@ -1,16 +1,17 @@
 -- What stands at a place of a pack: a length of 4 bytes, and so many bytes.
-use Prim.Native.Nat.{ℕ, _+_, _-_}
-use mathlib.Core.Bool.{cond}
+use mathlib.Core.Path.{_≡_}
+use mathlib.Core.Bool.{true}
 use mathlib.Core.List.{List}
+use Prim.Native.Nat.{ℕ, _+_, _≤_, _<_}
 use lib.ListN.{length}
-use lib.Dec.{leb, ltb}
+use lib.Dec.{leb}
 use Rattle.maps.specs.Bytes.{field}
-use Rattle.packs.specs.declared.Entry.{Entry}
-use Rattle.packs.specs.declared.Entry.the-variants.{Item, Cut, End}
+use Rattle.packs.specs.declared.Item.{Item}
 
-unfoldable pub entryAt : List ℕ → ℕ → Entry
-entryAt pack at =
-    cond (leb (length pack) at) End
-    (cond (ltb (length pack - at) 4) Cut
-    (cond (ltb (length pack - (at + 4)) (field pack at 4)) Cut
-    (Item (at + 4) (at + 4 + field pack at 4))))
+pub record Stands (pack : List ℕ) (at : ℕ) (item : Item) : Type 0 where
+  pub held : item .whole ≡ leb (at + 4 + field pack at 4) (length pack)
+  pub begins : item .whole ≡ true → item .start ≡ at + 4
+  pub ends : item .whole ≡ true → item .end ≡ at + 4 + field pack at 4
+  pub after : at < item .end
+  pub order : item .start ≤ item .end
+  pub within : item .end ≤ length pack

@@ -1,18 +1,18 @@
 -- The verdict on a change of a van that stands as its slot says, in a memory that has the roads of the map, is what the definitions say of it.
 -- Assumes nothing.
-use mathlib.Core.Path.{_≡_, refl, sym, ap, subst⁻¹, _∙_}
+use mathlib.Core.Path.{_≡_, refl, ap, subst⁻¹, _∙_}
 use mathlib.Core.Bool.{true, false}
 use mathlib.Core.List.{List}
 use Prim.Native.Nat.{ℕ, suc, _+_, _<_}
 use native.Mathlib.Omega.{arith}
 use native.Mathlib.Numerals.{add-one}
 use native.Mathlib.Decide.{decLt, ℕ-discrete}
+use lib.Dec.{eqb}
 use borrow.Author.Tests.{le-leb, lt-leb, lt-ltb, le-ltb, eq-eqb, ne-eqb}
 use Rattle.words.specs.Tests.{_unless_then_}
 use Rattle.roads.specs.Map.{Map, roadAt, roadCount, roadBetween}
 use Rattle.maps.specs.Sound.{Sound}
 use Rattle.answers.specs.Answered.{answered}
-use Rattle.answers.specs.declared.Reply.the-variants.{NoVan, AlreadyPresent, NoRoad, OffsetAboveWeight, Held, NotHeldByDesk, StampDiffers}
 use Rattle.counts.specs.declared.Counts.{Counts}
 use Rattle.fleet.specs.State.{Van, Slot, absent, present, State, slotOf, isPresent, isFree, isHeldBy, hasStamp}
 use Rattle.fleet.specs.declared.Change.{Change}
@@ -24,7 +24,6 @@ use Rattle.road_lookup.specs.Lookup.{RoadsStand}
 use Rattle.refusals.specs.declared.Verdict.{Verdict}
 use Rattle.refusals.specs.declared.Verdict.the-variants.{Refuse, Stand}
 use Rattle.refusals.specs.Verdict.{weightIn, placing, adding, moving, removing, claiming, releasing, OnRoad, Judged}
-use Rattle.refusals.proofs.Ways.{placing-none, placing-far, placing-there, adding-present, adding-place, moving-none, moving-place, removing-none, removing-held, removing-free, claiming-none, claiming-held, claiming-differs, claiming-free, releasing-none, releasing-other, releasing-held}
 
 -- a refusal is the definitions' refusal; a van that is to stand is refused by the change count alone, and stands as the definitions say
 abbrev pub Agrees : Map → State → Change → Verdict → Type 0
@@ -50,7 +49,7 @@ module _ (m : Map) (s : State) (c : Change) where
       off-road : ¬ (road < roads) → Agrees m s c (placing state roads road weight offset)
       off-road none =
           let no-road : isRoad m u v ≡ false = le-ltb _ (roadCount m) (omega (arith, found, all)) in
-          agrees-by _ (Refuse NoRoad) (sym (placing-none state roads road weight offset (omega arith))) (9, refusal ∙ simp no-road, refl)
+          rw (le-leb roads road (omega arith)) (9, refusal ∙ simp no-road, refl)
 
       on-road : road < roads → Agrees m s c (placing state roads road weight offset)
       on-road there = elim (decLt weight offset) [ yes far ↦ too-far far | no near ↦ in-place near ]
@@ -64,17 +63,16 @@ module _ (m : Map) (s : State) (c : Change) where
           too-far : weight < offset → Agrees m s c (placing state roads road weight offset)
           too-far far =
               let above : offsetFits m u v offset ≡ false = lt-leb offset _ (omega (arith, weight-is)) in
-              agrees-by _ (Refuse OffsetAboveWeight) (sym (placing-far state roads road weight offset there far)) (10, refusal ∙ simp (is-road, above), refl)
+              rw (lt-leb roads road there, lt-ltb weight offset far) (10, refusal ∙ simp (is-road, above), refl)
 
           in-place : ¬ (weight < offset) → Agrees m s c (placing state roads road weight offset)
           in-place near =
               let fits : offsetFits m u v offset ≡ true = le-leb offset _ (omega (arith, weight-is)) in
-              agrees-by _ (Stand (record { state = state; road = road; offset = offset; stamp = 0 })) (sym (placing-there state roads road weight offset there (omega arith)))
-              (refusal ∙ simp (is-road, fits), stands)
+              rw (lt-leb roads road there, le-ltb weight offset (omega arith)) (refusal ∙ simp (is-road, fits), stands)
 
--- the words of a van that is there
-there-not-zero : (v : Van) → wordsOf (present v) .state ≡ 0 → ⊥
-there-not-zero v e = omega arith
+-- the test of the words of a van that is there
+not-none : (v : Van) → eqb (wordsOf (present v) .state) 0 ≡ false
+not-none v = ne-eqb (suc (v .holder)) 0 (omega arith)
 
 module _ (m : Map) (s : State) (mem : List ℕ) (counts : Counts) (sound : Sound m) (stand : RoadsStand m counts mem)
     (weights : (i : ℕ) → i < roadCount m → weightIn mem counts i ≡ roadAt m i .weight) where
@@ -87,14 +85,11 @@ module _ (m : Map) (s : State) (mem : List ℕ) (counts : Counts) (sound : Sound
   unfolding refusalOf slotAfter
   add-agrees van u v offset (present w) is ok verdict j =
       let there : isPresent (slotOf s van) ≡ true = ap isPresent is in
-      agrees-by m s (Add van u v offset) verdict (Refuse AlreadyPresent)
-      (j .is ∙ sym (adding-present (wordsOf (present w)) (counts .roads) (j .road) (weightIn mem counts (j .road)) offset (there-not-zero w)))
-      (8, simp (ok, there), refl)
+      agrees-by m s (Add van u v offset) verdict _ (j .is) (rw (not-none w) (8, simp (ok, there), refl))
   add-agrees van u v offset absent is ok verdict j =
       let none : isPresent (slotOf s van) ≡ false = ap isPresent is in
       let found : j .road ≡ roadBetween (m .roads) u v = j .found m sound stand in
-      agrees-by m s (Add van u v offset) verdict (placing 1 (counts .roads) (j .road) (weightIn mem counts (j .road)) offset)
-      (j .is ∙ sym (adding-place (wordsOf absent) (counts .roads) (j .road) (weightIn mem counts (j .road)) offset _ refl refl))
+      agrees-by m s (Add van u v offset) verdict _ (j .is)
       (placing-agrees m s (Add van u v offset) 1 u v offset (counts .roads) (j .road) (weightIn mem counts (j .road)) found (stand .roads) (weight-there (j .road))
       (simp (ok, none)) (λ stamp. rw (is, found) (stamped-suc 0 (roadBetween (m .roads) u v) offset 0 stamp)))
 
@@ -103,23 +98,20 @@ module _ (m : Map) (s : State) (mem : List ℕ) (counts : Counts) (sound : Sound
   unfolding refusalOf slotAfter
   move-agrees van u v offset absent is ok verdict j =
       let none : isPresent (slotOf s van) ≡ false = ap isPresent is in
-      agrees-by m s (Move van u v offset) verdict (Refuse NoVan)
-      (j .is ∙ sym (moving-none (wordsOf absent) (counts .roads) (j .road) (weightIn mem counts (j .road)) offset refl))
-      (7, simp (ok, none), refl)
+      agrees-by m s (Move van u v offset) verdict _ (j .is) (7, simp (ok, none), refl)
   move-agrees van u v offset (present w) is ok verdict j =
       let there : isPresent (slotOf s van) ≡ true = ap isPresent is in
       let found : j .road ≡ roadBetween (m .roads) u v = j .found m sound stand in
-      agrees-by m s (Move van u v offset) verdict (placing (suc (w .holder)) (counts .roads) (j .road) (weightIn mem counts (j .road)) offset)
-      (j .is ∙ sym (moving-place (wordsOf (present w)) (counts .roads) (j .road) (weightIn mem counts (j .road)) offset _ (there-not-zero w) refl))
-      (placing-agrees m s (Move van u v offset) (suc (w .holder)) u v offset (counts .roads) (j .road) (weightIn mem counts (j .road)) found (stand .roads) (weight-there (j .road))
-      (simp (ok, there)) (λ stamp. rw (is, found) (stamped-suc (w .holder) (roadBetween (m .roads) u v) offset 0 stamp)))
+      agrees-by m s (Move van u v offset) verdict _ (j .is)
+      (rw (not-none w) (placing-agrees m s (Move van u v offset) (suc (w .holder)) u v offset (counts .roads) (j .road) (weightIn mem counts (j .road)) found (stand .roads) (weight-there (j .road))
+      (simp (ok, there)) (λ stamp. rw (is, found) (stamped-suc (w .holder) (roadBetween (m .roads) u v) offset 0 stamp))))
 
 module _ (m : Map) (s : State) where
   remove-agrees : (van : ℕ) (slot : Slot) → slotOf s van ≡ slot → inRange (Remove van) ≡ true → Agrees m s (Remove van) (removing (wordsOf slot))
   unfolding refusalOf slotAfter
   remove-agrees van absent is ok =
       let none : isPresent (slotOf s van) ≡ false = ap isPresent is in
-      agrees-by m s (Remove van) _ (Refuse NoVan) (sym (removing-none (wordsOf absent) refl)) (7, simp (ok, none), refl)
+      (7, simp (ok, none), refl)
   remove-agrees van (present w) is ok = elim (ℕ-discrete (w .holder) 0) [ yes free ↦ goes free | no held ↦ stays held ]
     where
       there : isPresent (slotOf s van) ≡ true
@@ -128,18 +120,18 @@ module _ (m : Map) (s : State) where
       goes : w .holder ≡ 0 → Agrees m s (Remove van) (removing (wordsOf (present w)))
       goes free =
           let is-free : isFree (slotOf s van) ≡ true = ap isFree is ∙ eq-eqb (w .holder) 0 free in
-          agrees-by m s (Remove van) _ (Stand (wordsOf absent)) (sym (removing-free (wordsOf (present w)) (there-not-zero w) (omega arith))) (simp (ok, there, is-free), λ stamp. refl)
+          rw (not-none w, le-ltb 1 (suc (w .holder)) (omega arith)) (simp (ok, there, is-free), λ stamp. refl)
 
       stays : (w .holder ≡ 0 → ⊥) → Agrees m s (Remove van) (removing (wordsOf (present w)))
       stays held =
           let not-free : isFree (slotOf s van) ≡ false = ap isFree is ∙ ne-eqb (w .holder) 0 held in
-          agrees-by m s (Remove van) _ (Refuse Held) (sym (removing-held (wordsOf (present w)) (there-not-zero w) (omega arith))) (11, simp (ok, there, not-free), refl)
+          rw (not-none w, lt-ltb 1 (suc (w .holder)) (omega arith)) (11, simp (ok, there, not-free), refl)
 
   claim-agrees : (van stamp desk : ℕ) (slot : Slot) → slotOf s van ≡ slot → inRange (Claim van stamp desk) ≡ true → Agrees m s (Claim van stamp desk) (claiming (wordsOf slot) stamp desk)
   unfolding refusalOf slotAfter
   claim-agrees van stamp desk absent is ok =
       let none : isPresent (slotOf s van) ≡ false = ap isPresent is in
-      agrees-by m s (Claim van stamp desk) _ (Refuse NoVan) (sym (claiming-none (wordsOf absent) stamp desk refl)) (7, simp (ok, none), refl)
+      (7, simp (ok, none), refl)
   claim-agrees van stamp desk (present w) is ok = elim (ℕ-discrete (w .holder) 0) [ yes free ↦ elim (ℕ-discrete (w .stamp) stamp) [ yes same ↦ taken free same | no other ↦ late free other ] | no held ↦ stays held ]
     where
       there : isPresent (slotOf s van) ≡ true
@@ -151,26 +143,25 @@ module _ (m : Map) (s : State) where
       taken : w .holder ≡ 0 → w .stamp ≡ stamp → Agrees m s (Claim van stamp desk) (claiming (wordsOf (present w)) stamp desk)
       taken free same =
           let has : hasStamp stamp (slotOf s van) ≡ true = ap (hasStamp stamp) is ∙ eq-eqb (w .stamp) stamp same in
-          agrees-by m s (Claim van stamp desk) _ (Stand (record { state = desk + 1; road = w .road; offset = w .offset; stamp = 0 }))
-          (sym (claiming-free (wordsOf (present w)) stamp desk (there-not-zero w) (omega arith) same))
+          rw (not-none w, eq-eqb (suc (w .holder)) 1 (omega arith), eq-eqb (w .stamp) stamp same)
           (simp (ok, there, free-test free, has), λ new. rw (is, add-one desk) (stamped-suc desk (w .road) (w .offset) 0 new))
 
       late : w .holder ≡ 0 → (w .stamp ≡ stamp → ⊥) → Agrees m s (Claim van stamp desk) (claiming (wordsOf (present w)) stamp desk)
       late free other =
           let has-not : hasStamp stamp (slotOf s van) ≡ false = ap (hasStamp stamp) is ∙ ne-eqb (w .stamp) stamp other in
-          agrees-by m s (Claim van stamp desk) _ (Refuse StampDiffers) (sym (claiming-differs (wordsOf (present w)) stamp desk (there-not-zero w) (omega arith) other))
+          rw (not-none w, eq-eqb (suc (w .holder)) 1 (omega arith), ne-eqb (w .stamp) stamp other)
           (13, simp (ok, there, free-test free, has-not), refl)
 
       stays : (w .holder ≡ 0 → ⊥) → Agrees m s (Claim van stamp desk) (claiming (wordsOf (present w)) stamp desk)
       stays held =
           let not-free : isFree (slotOf s van) ≡ false = ap isFree is ∙ ne-eqb (w .holder) 0 held in
-          agrees-by m s (Claim van stamp desk) _ (Refuse Held) (sym (claiming-held (wordsOf (present w)) stamp desk (there-not-zero w) (omega arith))) (11, simp (ok, there, not-free), refl)
+          rw (not-none w, ne-eqb (suc (w .holder)) 1 (omega arith)) (11, simp (ok, there, not-free), refl)
 
   release-agrees : (van desk : ℕ) (slot : Slot) → slotOf s van ≡ slot → inRange (Release van desk) ≡ true → Agrees m s (Release van desk) (releasing (wordsOf slot) desk)
   unfolding refusalOf slotAfter
   release-agrees van desk absent is ok =
       let none : isPresent (slotOf s van) ≡ false = ap isPresent is in
-      agrees-by m s (Release van desk) _ (Refuse NoVan) (sym (releasing-none (wordsOf absent) desk refl)) (7, simp (ok, none), refl)
+      (7, simp (ok, none), refl)
   release-agrees van desk (present w) is ok = elim (ℕ-discrete (w .holder) desk) [ yes same ↦ freed same | no other ↦ stays other ]
     where
       there : isPresent (slotOf s van) ≡ true
@@ -179,14 +170,13 @@ module _ (m : Map) (s : State) where
       freed : w .holder ≡ desk → Agrees m s (Release van desk) (releasing (wordsOf (present w)) desk)
       freed same =
           let holds : isHeldBy desk (slotOf s van) ≡ true = ap (isHeldBy desk) is ∙ eq-eqb (w .holder) desk same in
-          agrees-by m s (Release van desk) _ (Stand (record { state = 1; road = w .road; offset = w .offset; stamp = 0 }))
-          (sym (releasing-held (wordsOf (present w)) desk (there-not-zero w) (omega arith)))
+          rw (not-none w, eq-eqb (suc (w .holder)) (desk + 1) (omega arith))
           (simp (ok, there, holds), λ new. rw is (stamped-suc 0 (w .road) (w .offset) 0 new))
 
       stays : (w .holder ≡ desk → ⊥) → Agrees m s (Release van desk) (releasing (wordsOf (present w)) desk)
       stays other =
           let holds-not : isHeldBy desk (slotOf s van) ≡ false = ap (isHeldBy desk) is ∙ ne-eqb (w .holder) desk other in
-          agrees-by m s (Release van desk) _ (Refuse NotHeldByDesk) (sym (releasing-other (wordsOf (present w)) desk (there-not-zero w) (omega arith))) (12, simp (ok, there, holds-not), refl)
+          rw (not-none w, ne-eqb (suc (w .holder)) (desk + 1) (omega arith)) (12, simp (ok, there, holds-not), refl)
 
 -- every kind of change
 pub agrees : (m : Map) (s : State) (mem : List ℕ) (counts : Counts) → Sound m → RoadsStand m counts mem

@@ -56,8 +56,8 @@ module _ (old : VanWords) where
 
   removing-later : Later (removing old)
   removing-later =
-      later-if (eqb (old .state) 0) (Refuse NoVan) (cond (eqb (old .state) 1) (Stand (wordsOf absent)) (Refuse Held)) no-van
-      (later-if (eqb (old .state) 1) (Stand (wordsOf absent)) (Refuse Held) tt held)
+      later-if (eqb (old .state) 0) (Refuse NoVan) (cond (ltb 1 (old .state)) (Refuse Held) (Stand (wordsOf absent))) no-van
+      (later-if (ltb 1 (old .state)) (Refuse Held) (Stand (wordsOf absent)) held tt)
 
   claiming-later : (stamp desk : ℕ) → Later (claiming old stamp desk)
   claiming-later stamp desk =

@@ -42,7 +42,7 @@ abbrev pub moving : (old : VanWords) (roads road weight offset : ℕ) → Verdic
 moving old roads road weight offset = cond (eqb (old .state) 0) (Refuse NoVan) (placing (old .state) roads road weight offset)
 
 abbrev pub removing : VanWords → Verdict
-removing old = cond (eqb (old .state) 0) (Refuse NoVan) (cond (eqb (old .state) 1) (Stand (wordsOf absent)) (Refuse Held))
+removing old = cond (eqb (old .state) 0) (Refuse NoVan) (cond (ltb 1 (old .state)) (Refuse Held) (Stand (wordsOf absent)))
 
 abbrev pub claiming : (old : VanWords) (stamp desk : ℕ) → Verdict
 claiming old stamp desk =

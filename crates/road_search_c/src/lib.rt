@@ -4,7 +4,7 @@ ghost use mathlib.Core.Path.{_≡_};
 ghost use Prim.Native.Nat.{_+_, _*_, _≤_, _<_};
 ghost use lib.ListN.{length};
 ghost use Rattle.road_search.specs.Layout.{LaidVertex, LaidRoad, Laid, shownRoad};
-ghost use Rattle.road_search_c.specs.Answer.{Decides, LaidVertices, LaidRoads, Answered};
+ghost use Rattle.road_search_c.specs.Answer.{Decides, Each, Answered};
 use road_search::distances;
 use road_search::index;
 
@@ -30,7 +30,7 @@ fn vertex_laid(mem: &[u32], vertices_at: usize, n: usize, count: usize, v: usize
 // Whether all vertices are.
 fn vertices_laid(mem: &[u32], vertices_at: usize, n: usize, count: usize) -> bool
     requires { ⌜ «vertices_at» + 8 * n ≤ length (now mem) ⌝ }
-    ensures { λ r. ⌜ Decides r (LaidVertices (now (mem .entry)) «vertices_at» n count n) ⌝ }
+    ensures { λ r. ⌜ Decides r (Each (LaidVertex (now (mem .entry)) «vertices_at» n count) n) ⌝ }
 {
     let mut v = 0;
     while v < n {
@@ -75,7 +75,7 @@ fn road_laid(mem: &[u32], vertices_at: usize, n: usize, roads_at: usize, j: usiz
 fn roads_laid(mem: &[u32], vertices_at: usize, n: usize, roads_at: usize, count: usize) -> bool
     requires { ⌜ «vertices_at» + 8 * n ≤ length (now mem) ⌝ }
     requires { ⌜ «roads_at» + 4 * count ≤ length (now mem) ⌝ }
-    ensures { λ r. ⌜ Decides r (LaidRoads (now (mem .entry)) «vertices_at» n «roads_at» count) ⌝ }
+    ensures { λ r. ⌜ Decides r (Each (λ j. LaidRoad (now (mem .entry)) «vertices_at» n j (shownRoad (now (mem .entry)) («roads_at» + 4 * j))) count) ⌝ }
 {
     let mut j = 0;
     while j < count {

@@ -7,10 +7,10 @@ use Rattle.desk_cases.proofs.calls.Statement.{statement}
 use Rattle.desk_cases.proofs.calls.Tie as tie
 
 abbrev Inv-loop : tie.InvT-loop
-Inv-loop memory₀ input rows at₀ place₀ memory at place = (at ≤ length input) × (1 ≤ place)
+Inv-loop memory₀ input start rows at₀ place₀ memory at place = (at ≤ length input) × (1 ≤ place)
 
 abbrev μ-loop : tie.MeasureT-loop
-μ-loop memory₀ input rows at₀ place₀ memory at place = 1000002 - place
+μ-loop memory₀ input start rows at₀ place₀ memory at place = 1000002 - place
 
 returns : tie.Need-returns Inv-loop μ-loop
 returns c = search needs

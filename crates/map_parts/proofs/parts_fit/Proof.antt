@@ -8,7 +8,7 @@ use lib.Dec.{eqb}
 use Rattle.words.specs.Limits.{NONE}
 use Rattle.words.proofs.Lists.{all-same}
 use borrow.Author.Tests.{eq-eqb, ne-eqb, not-true, not-false}
-use Rattle.map_parts.proofs.Fits.{no-root, no-fall, parts-fit-is}
+use Rattle.map_parts.proofs.Fits.{no-root, parts-fit-is}
 use borrow.Author.Needs.{needs}
 use Rattle.map_parts.proofs.parts_fit.Statement.{statement}
 use Rattle.map_parts.proofs.parts_fit.Tie as tie
@@ -20,40 +20,23 @@ at-root is e = sym (ap (λ (n : ℕ). eqb n NONE) is) ∙ e
 returns : tie.Need-returns
 returns c m shows = no-root m _ _ _ _ shows (c .before .before .before .before .pre .1) (at-root (c .before .entry .ensures) (ne-eqb _ _ (c .if1 .taken)))
 
-returns-2 : tie.Need-returns-2
-returns-2 c m shows =
-    no-fall m _ _ _ _ shows (c .before .before .before .before .before .before .pre .1) (at-root (c .before .before .before .entry .ensures) (eq-eqb _ _ (c .before .before .if1 .left)))
-    (sym (c .before .parents-fit .ensures) ∙ not-true _ (c .if2 .taken))
-
 tally-requires : tie.Need-tally-requires
 tally-requires c κs = (refl, λ p. all-same 512 p 0, omega arith)
 
 tally-requires-2 : tie.Need-tally-requires-2
 tally-requires-2 c κs = (refl, λ p. all-same 512 p 0, omega arith)
 
+returns-2 : tie.Need-returns-2
+returns-2 c m shows =
+    parts-fit-is m _ _ _ _ shows _ _ (c .before .before .before .before .before .before .tally .ensures) (c .before .before .before .before .tally2 .ensures) (c .before .before .before .before .before .before .before .before .before .before .before .before .pre .2) (c .before .before .before .before .before .before .before .before .before .before .before .before .pre .1)
+    (at-root (c .before .before .before .before .before .before .before .before .before .entry .ensures) (eq-eqb _ _ (c .before .before .before .before .before .before .before .before .if1 .left)))
+    (sym (not-true _ (c .if2 .taken)) ∙ c .before .tree-fits .ensures) refl
+
 returns-3 : tie.Need-returns-3
 returns-3 c m shows =
-    parts-fit-is m _ _ _ _ shows _ _ (c .before .before .before .before .before .before .tally .ensures) (c .before .before .before .before .tally2 .ensures) (c .before .before .before .before .before .before .before .before .before .before .before .before .before .before .pre .2) (c .before .before .before .before .before .before .before .before .before .before .before .before .before .before .pre .1)
+    parts-fit-is m _ _ _ _ shows _ _ (c .before .before .before .before .before .before .before .before .tally .ensures) (c .before .before .before .before .before .before .tally2 .ensures) (c .before .before .before .before .before .before .before .before .before .before .before .before .before .before .pre .2) (c .before .before .before .before .before .before .before .before .before .before .before .before .before .before .pre .1)
     (at-root (c .before .before .before .before .before .before .before .before .before .before .before .entry .ensures) (eq-eqb _ _ (c .before .before .before .before .before .before .before .before .before .before .if1 .left)))
-    (sym (c .before .before .before .before .before .before .before .before .before .parents-fit .ensures) ∙ not-false _ (c .before .before .before .before .before .before .before .before .if2 .left))
-    (sym (c .before .families-fit .ensures) ∙ not-true _ (c .if3 .taken)) refl refl
-
-returns-4 : tie.Need-returns-4
-returns-4 c m shows =
-    parts-fit-is m _ _ _ _ shows _ _ (c .before .before .before .before .before .before .before .before .tally .ensures) (c .before .before .before .before .before .before .tally2 .ensures) (c .before .before .before .before .before .before .before .before .before .before .before .before .before .before .before .before .pre .2) (c .before .before .before .before .before .before .before .before .before .before .before .before .before .before .before .before .pre .1)
-    (at-root (c .before .before .before .before .before .before .before .before .before .before .before .before .before .entry .ensures) (eq-eqb _ _ (c .before .before .before .before .before .before .before .before .before .before .before .before .if1 .left)))
-    (sym (c .before .before .before .before .before .before .before .before .before .before .before .parents-fit .ensures) ∙ not-false _ (c .before .before .before .before .before .before .before .before .before .before .if2 .left))
-    (sym (c .before .before .before .families-fit .ensures) ∙ not-false _ (c .before .before .if3 .left))
-    (sym (c .before .levels-fit .ensures) ∙ not-true _ (c .if4 .taken)) refl
-
-returns-5 : tie.Need-returns-5
-returns-5 c m shows =
-    parts-fit-is m _ _ _ _ shows _ _ (c .before .before .before .before .before .before .before .before .before .before .tally .ensures) (c .before .before .before .before .before .before .before .before .tally2 .ensures) (c .before .before .before .before .before .before .before .before .before .before .before .before .before .before .before .before .before .before .pre .2) (c .before .before .before .before .before .before .before .before .before .before .before .before .before .before .before .before .before .before .pre .1)
-    (at-root (c .before .before .before .before .before .before .before .before .before .before .before .before .before .before .before .entry .ensures) (eq-eqb _ _ (c .before .before .before .before .before .before .before .before .before .before .before .before .before .before .if1 .left)))
-    (sym (c .before .before .before .before .before .before .before .before .before .before .before .before .before .parents-fit .ensures) ∙ not-false _ (c .before .before .before .before .before .before .before .before .before .before .before .before .if2 .left))
-    (sym (c .before .before .before .before .before .families-fit .ensures) ∙ not-false _ (c .before .before .before .before .if3 .left))
-    (sym (c .before .before .before .levels-fit .ensures) ∙ not-false _ (c .before .before .if4 .left))
-    (sym (c .vertices-stand .ensures))
+    (sym (not-false _ (c .before .before .if2 .left)) ∙ c .before .before .before .tree-fits .ensures) (c .vertices-stand .ensures)
 
 pub parts-fit-spec : {M : Type 1} → statement M
 parts-fit-spec =
@@ -61,13 +44,9 @@ parts-fit-spec =
     (tie.spec
     (search needs)
     returns
-    (search needs)
-    returns-2
     tally-requires
     tally-requires-2
     (search needs)
-    returns-3
+    returns-2
     (search needs)
-    returns-4
-    (search needs)
-    returns-5)
+    returns-3)

@@ -12,14 +12,8 @@ use Rattle.opening_cases.proofs.open_case.Tie as tie
 first-words : (n x k : ℕ) → k ≤ n → k ≡ length (take k (replicate n x))
 first-words n x k h = sym (length-take-le k (replicate n x) (omega (arith, length-replicate n x)))
 
-returns : tie.Need-returns
-returns c = search needs
-
 slice-aggregate-write-case-2 : tie.Need-slice-aggregate-write-case-2
 slice-aggregate-write-case-2 c = first-words 32768 7 _ (omega arith)
-
-returns-2 : tie.Need-returns-2
-returns-2 c = search needs
 
 pub open-case-spec : {M : Type 1} → statement M
 open-case-spec =
@@ -27,13 +21,9 @@ open-case-spec =
     (tie.spec
     (search needs)
     (search needs)
-    returns
-    (search needs)
-    (search needs)
-    (search needs)
     (search needs)
     (search needs)
     (search needs)
     slice-aggregate-write-case-2
     (search needs)
-    returns-2)
+    (search needs))

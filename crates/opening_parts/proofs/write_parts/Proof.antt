@@ -7,7 +7,7 @@ use lib.ListN.{length, getD}
 use borrow.Author.Needs.{needs}
 use Rattle.roads.specs.Map.{Map}
 use Rattle.opening_parts.specs.Parts.{Ready, PartsStand}
-use Rattle.opening_parts.proofs.Step.{Families, families-none, parts-none, families-more, parts-more, size-read, square-fits}
+use Rattle.opening_parts.proofs.Step.{Families, families-none, parts-none, part-more, size-read, square-fits}
 use Rattle.opening_parts.proofs.write_parts.Statement.{statement}
 use Rattle.opening_parts.proofs.write_parts.Tie as tie
 
@@ -48,25 +48,13 @@ loop-again c =
       omega (arith, loop .inv .0),
       adopt .kept .0 ∙ loop .inv .1,
       write-part .kept .0 ∙ loop .inv .2,
-      λ m ready. (
-        families-more m (args .parents .now) (args .sizes .now) (args .parts) (args .tables-end) (args .rows-end) (args .children .now) (args .mem .now) ready (loop .next - 1) (loop .next) _ (loop .table) _ (loop .row) _ _ _ _ (loop .children) _ (loop .mem) _
-            (omega (arith, loop-test .taken)) (omega (arith, loop-test .taken, loop .inv .0)) (loop .inv .1) (loop .inv .3 m ready .0)
-            (size-read (args .sizes .now) (loop .next - 1) _ _ _ (wide .ensures) (word .ensures) (limited .ensures .1)) (start-of .ensures) (start-of2 .ensures)
-            (word2 .ensures ∙ ap (λ (i : ℕ). getD (args .parents .now) i 0) (wide2 .ensures)) (word3 .ensures ∙ ap (λ (i : ℕ). getD (loop .children) i 0) (wide3 .ensures))
-            (adopt .ensures .0) (adopt .ensures .1) (write-part .ensures),
-        parts-more m (args .parents .now) (args .sizes .now) (args .parts) (args .tables-end) (args .rows-end) (args .children .now) (args .mem .now) ready (loop .next - 1) (loop .next) _ (loop .table) _ (loop .row) _ _ _ _ (loop .children) _ (loop .mem) _
-            (omega (arith, loop-test .taken)) (omega (arith, loop-test .taken, loop .inv .0)) (loop .inv .1) (loop .inv .3 m ready .0)
-            (size-read (args .sizes .now) (loop .next - 1) _ _ _ (wide .ensures) (word .ensures) (limited .ensures .1)) (start-of .ensures) (start-of2 .ensures)
-            (word2 .ensures ∙ ap (λ (i : ℕ). getD (args .parents .now) i 0) (wide2 .ensures)) (word3 .ensures ∙ ap (λ (i : ℕ). getD (loop .children) i 0) (wide3 .ensures))
-            (adopt .ensures .0) (adopt .ensures .1) (write-part .ensures) (loop .inv .3 m ready .1),
-      ),
+      λ m ready.
+          part-more m (args .parents .now) (args .sizes .now) (args .parts) (args .tables-end) (args .rows-end) (args .children .now) (args .mem .now) ready (loop .next - 1) (loop .next) _ (loop .table) _ (loop .row) _ _ _ _ (loop .children) _ (loop .mem) _
+          (omega (arith, loop-test .taken)) (omega (arith, loop-test .taken, loop .inv .0)) (loop .inv .1) (loop .inv .3 m ready .0)
+          (size-read (args .sizes .now) (loop .next - 1) _ _ _ (wide .ensures) (word .ensures) (limited .ensures .1)) (start-of .ensures) (start-of2 .ensures)
+          (word2 .ensures ∙ ap (λ (i : ℕ). getD (args .parents .now) i 0) (wide2 .ensures)) (word3 .ensures ∙ ap (λ (i : ℕ). getD (loop .children) i 0) (wide3 .ensures))
+          (adopt .ensures .0) (adopt .ensures .1) (write-part .ensures) (loop .inv .3 m ready .1),
     )
-
-same-length : tie.Need-same-length Inv-loop μ-loop
-same-length c = c .before .loop .inv .1
-
-same-length-2 : tie.Need-same-length-2 Inv-loop μ-loop
-same-length-2 c = c .before .loop .inv .2
 
 returns : tie.Need-returns Inv-loop μ-loop
 returns c =
@@ -100,6 +88,6 @@ write-parts-spec =
     (search needs)
     (search needs)
     loop-again
-    same-length
-    same-length-2
+    (search needs)
+    (search needs)
     returns)

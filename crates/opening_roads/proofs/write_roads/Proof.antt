@@ -36,12 +36,6 @@ loop-again c =
           (omega (arith, loop-test .taken)) (omega (arith, loop-test .taken, loop .inv .0)) (loop .inv .1) (loop .inv .3 m ready) (write-road .ensures .0) (write-road .ensures .1),
     )
 
-same-length : tie.Need-same-length Inv-loop μ-loop
-same-length c = c .before .loop .inv .1
-
-same-length-2 : tie.Need-same-length-2 Inv-loop μ-loop
-same-length-2 c = c .before .loop .inv .2
-
 returns : tie.Need-returns Inv-loop μ-loop
 returns c =
     let loop = c .before .loop in
@@ -61,6 +55,6 @@ write-roads-spec =
     (search needs)
     (search needs)
     loop-again
-    same-length
-    same-length-2
+    (search needs)
+    (search needs)
     returns)

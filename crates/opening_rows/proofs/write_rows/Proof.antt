@@ -48,12 +48,6 @@ loop-again c =
           (loop .inv .3 m ready)),
     )
 
-same-length : tie.Need-same-length Inv-loop μ-loop
-same-length c = c .before .loop .inv .1
-
-same-length-2 : tie.Need-same-length-2 Inv-loop μ-loop
-same-length-2 c = c .before .loop .inv .2
-
 returns : tie.Need-returns Inv-loop μ-loop
 returns c =
     let args = c .before .before .before .before .before .before .before .args in
@@ -79,6 +73,6 @@ write-rows-spec =
     (search needs)
     (search needs)
     loop-again
-    same-length
-    same-length-2
+    (search needs)
+    (search needs)
     returns)

@@ -10,7 +10,7 @@ use Rattle.image.specs.Places.{verticesAt}
 use Rattle.records.proofs.Written.{written-none}
 use Rattle.opening_fresh.specs.Fresh.{freshVertex}
 use Rattle.opening_vertices.specs.Vertices.{Ready, VerticesStand}
-use Rattle.opening_vertices.proofs.Step.{Taken, taken-none, taken-more, vertices-more}
+use Rattle.opening_vertices.proofs.Step.{Taken, taken-none, vertex-more}
 use Rattle.opening_vertices.proofs.write_vertices.Statement.{statement}
 use Rattle.opening_vertices.proofs.write_vertices.Tie as tie
 
@@ -44,19 +44,10 @@ loop-again c =
       omega (arith, loop-test .taken),
       next-place .kept .0 ∙ loop .inv .1,
       write-vertex .kept .0 ∙ loop .inv .2,
-      λ m ready. (
-        taken-more m (args .leaves .now) (args .body .now) (args .roads) (args .vertices) (args .base) (args .ins .now) (args .places .now) (args .mem .now) ready (loop .v) (loop .road) _ _ _ _ (loop .places) _ (loop .mem) _ (loop-test .taken) (loop .inv .1) (loop .inv .3 m ready .0) (skip .ensures)
-            (word .ensures ∙ ap (λ (i : ℕ). getD (args .leaves .now) i 0) (wide .ensures)) (next-place .ensures .0) (next-place .ensures .1) (word2 .ensures ∙ ap (λ (i : ℕ). getD (args .ins .now) i 0) (wide2 .ensures)) (write-vertex .ensures),
-        vertices-more m (args .leaves .now) (args .body .now) (args .roads) (args .vertices) (args .base) (args .ins .now) (args .places .now) (args .mem .now) ready (loop .v) (loop .road) _ _ _ _ (loop .places) _ (loop .mem) _ (loop-test .taken) (loop .inv .1) (loop .inv .3 m ready .0) (skip .ensures)
-            (word .ensures ∙ ap (λ (i : ℕ). getD (args .leaves .now) i 0) (wide .ensures)) (next-place .ensures .0) (next-place .ensures .1) (word2 .ensures ∙ ap (λ (i : ℕ). getD (args .ins .now) i 0) (wide2 .ensures)) (write-vertex .ensures) (loop .inv .3 m ready .1),
-      ),
+      λ m ready.
+          vertex-more m (args .leaves .now) (args .body .now) (args .roads) (args .vertices) (args .base) (args .ins .now) (args .places .now) (args .mem .now) ready (loop .v) (loop .road) _ _ _ _ (loop .places) _ (loop .mem) _ (loop-test .taken) (loop .inv .1) (loop .inv .3 m ready .0) (skip .ensures)
+          (word .ensures ∙ ap (λ (i : ℕ). getD (args .leaves .now) i 0) (wide .ensures)) (next-place .ensures .0) (next-place .ensures .1) (word2 .ensures ∙ ap (λ (i : ℕ). getD (args .ins .now) i 0) (wide2 .ensures)) (write-vertex .ensures) (loop .inv .3 m ready .1),
     )
-
-same-length : tie.Need-same-length Inv-loop μ-loop
-same-length c = c .before .loop .inv .1
-
-same-length-2 : tie.Need-same-length-2 Inv-loop μ-loop
-same-length-2 c = c .before .loop .inv .2
 
 returns : tie.Need-returns Inv-loop μ-loop
 returns c =
@@ -84,6 +75,6 @@ write-vertices-spec =
     (search needs)
     (search needs)
     loop-again
-    same-length
-    same-length-2
+    (search needs)
+    (search needs)
     returns)

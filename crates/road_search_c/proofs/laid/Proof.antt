@@ -32,13 +32,13 @@ vertices-laid-requires : tie.Need-vertices-laid-requires
 vertices-laid-requires c κs = fit c .0
 
 returns-5 : tie.Need-returns-5
-returns-5 c = not-so (λ so. c .before .vertices-laid .ensures .fails (not-true _ (c .if5 .taken)) (so .vertex))
+returns-5 c = not-so (λ so. c .before .vertices-laid .ensures .fails (not-true _ (c .if5 .taken)) (record { each = so .vertex }))
 
 roads-laid-requires : tie.Need-roads-laid-requires
 roads-laid-requires c κs = fit (c .before .before)
 
 returns-6 : tie.Need-returns-6
-returns-6 c = not-so (λ so. c .before .roads-laid .ensures .fails (not-true _ (c .if6 .taken)) (so .road))
+returns-6 c = not-so (λ so. c .before .roads-laid .ensures .fails (not-true _ (c .if6 .taken)) (record { each = so .road }))
 
 returns-7 : tie.Need-returns-7
 returns-7 c =
@@ -49,8 +49,8 @@ returns-7 c =
       few = omega arith;
       vertices-fit = fits .0;
       roads-fit = fits .1;
-      vertex = passed .before .vertices-laid .ensures .holds (not-false _ (passed .if5 .left));
-      road = c .before .roads-laid .ensures .holds (not-false _ (c .if6 .left));
+      vertex = passed .before .vertices-laid .ensures .holds (not-false _ (passed .if5 .left)) .each;
+      road = c .before .roads-laid .ensures .holds (not-false _ (c .if6 .left)) .each;
     })
 
 pub laid-spec : {M : Type 1} → statement M

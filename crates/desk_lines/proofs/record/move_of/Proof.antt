@@ -1,20 +1,11 @@
 -- `record::move_of` reads a body as `moveOf` does.
 -- Assumes nothing.
 use borrow.Author.Needs.{needs}
-use Rattle.fleet.specs.declared.Change.the-variants.{Move}
-use Rattle.desk_lines.specs.declared.record.Call.the-variants.{Changes}
 use Rattle.desk_lines.specs.Read.{moveOf}
-use Rattle.desk_lines.proofs.Sized.{sized-no, sized-yes}
+use Rattle.desk_lines.proofs.Sized.{sizes}
 use Rattle.desk_lines.proofs.record.move_of.Statement.{statement}
 use Rattle.desk_lines.proofs.record.move_of.Tie as tie
 
-returns : tie.Need-returns
-unfolding moveOf
-returns c = sized-no 10 (c .before .before .args .body .now) _ (c .if1 .taken)
-
-returns-2 : tie.Need-returns-2
-unfolding moveOf
-returns-2 c = sized-yes 10 (c .before .before .before .before .before .before .args .body .now) _ _ (c .before .before .before .before .if1 .left) (λ i. Changes (Move ((c .before .before .before .number2 .ensures .0) i) ((c .before .before .number22 .ensures .0) i) ((c .before .number23 .ensures .0) i) ((c .number4 .ensures) i)))
-
 pub move-of-spec : {M : Type 1} → statement M
-move-of-spec = tie.close (tie.spec returns (search needs) (search needs) (search needs) (search needs) returns-2)
+unfolding moveOf
+move-of-spec = tie.close (tie.spec (λ c. search sizes) (search needs) (search needs) (search needs) (search needs) (λ c. search sizes))

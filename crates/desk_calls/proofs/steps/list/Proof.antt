@@ -6,8 +6,8 @@ use Prim.Native.Nat.{_-_, _≤_}
 use native.Mathlib.Omega.{arith}
 use lib.ListN.{length}
 use borrow.Author.Needs.{needs}
-use Rattle.desk.proofs.list.Statement.{statement}
-use Rattle.desk.proofs.list.Tie as tie
+use Rattle.desk_calls.proofs.steps.list.Statement.{statement}
+use Rattle.desk_calls.proofs.steps.list.Tie as tie
 
 abbrev Inv-loop : tie.InvT-loop
 Inv-loop answer out₀ at place count end₀ i₀ out end i = (end ≤ length out₀) × (length out ≡ length out₀)
