@@ -9,11 +9,10 @@ use places::road_at;
 use van_offers::offer_vans;
 use van_offers::vertex_word;
 ghost use mathlib.Core.Path.{_≡_};
-ghost use mathlib.Core.Bool.{true, _&&_};
+ghost use mathlib.Core.Bool.{true};
 ghost use mathlib.Core.List.{List};
 ghost use Prim.Native.Nat.{ℕ, suc, _+_, _-_, _*_, _%_, _≤_, _<_};
 ghost use lib.ListN.{length, set};
-ghost use lib.Dec.{eqb, ltb};
 ghost use Rattle.words.specs.Lists.{word};
 ghost use Rattle.roads.specs.Map.{Map};
 ghost use Rattle.fleet.specs.State.{State};
@@ -27,10 +26,8 @@ pub struct Near {
     pub done: bool,
 }
 
-// At most so many vertices are taken; and after LOOK of them the list must have come on.
-const MOST: usize = 384;
-
-const LOOK: usize = 64;
+// At most so many vertices are taken.
+const MOST: usize = 64;
 
 // How many vertices can wait, and how many roads into a vertex are looked at.
 const ROOM: usize = 128;
@@ -196,17 +193,6 @@ fn meet_all(
     GIVEN_UP
 }
 
-// A list of `found` vans after so many turns is not worth more of them.
-fn hopeless(turns: usize, found: usize, k: usize) -> bool
-    requires { ⌜ found ≤ 32 ⌝ }
-    ensures { λ r. ⌜ r ≡ (eqb turns 64 && ltb (4 * found + 3) k) ⌝ }
-{
-    if turns == LOOK {
-        return 4 * found + 3 < k;
-    }
-    false
-}
-
 // The search, with arrays that nothing was written to yet.
 fn search(
     mem: &[u32],
@@ -237,12 +223,6 @@ fn search(
             return Near {
                 best: best,
                 done: true,
-            };
-        }
-        if hopeless(turns, best.len, k) {
-            return Near {
-                best: best,
-                done: false,
             };
         }
         let v = take(i, n, at, labels, vertices);

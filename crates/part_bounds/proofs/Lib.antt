@@ -1,5 +1,6 @@
 -- Laws that the functions and the crates above cite.
-pub mod Gathering
+pub mod Listing
+pub mod Ways
 pub mod Lowering
 pub mod Relaxing
 pub mod Spreading

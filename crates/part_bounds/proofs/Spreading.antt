@@ -13,7 +13,8 @@ use lib.Dec.{leb, ltb}
 use borrow.Author.Tests.{lt-ltb, le-ltb, le-leb, lt-leb}
 use Rattle.words.specs.Limits.{FAR}
 use Rattle.words.specs.Lists.{word}
-use Rattle.part_bounds.specs.Bounds.{childAt, lowered, isNew, farCount, keyOf, Spread}
+use Rattle.words.proofs.Tests.{both-pass, right-true}
+use Rattle.part_bounds.specs.Bounds.{childAt, nearAt, belowAt, Among, isKnown, isAsked, Looked, lowered, isNew, farCount, keyOf, Spread, OpenedUp}
 use Rattle.part_bounds.proofs.Lowering.{lowered-set, lowered-same, lowered-length, lowered-no-more, lowered-here, lowered-found}
 
 one-mono : (x y : ℕ) → x ≤ y → cond (leb FAR x) 1 0 ≤ cond (leb FAR y) 1 0
@@ -90,8 +91,8 @@ far-lowered words i x = by (decLt x (word words i))
     by (yes less) = omega (arith, ap farCount (lowered-set words i x less), far-less words i x (omega arith))
     by (no more) = omega (arith, ap farCount (lowered-same words i x (omega (arith, more))))
 
-module _ {mem : List ℕ} {first : ℕ} {dx : List ℕ} where
-  pub spread-none : {keys waits : List ℕ} {n : ℕ} → length waits ≡ 512 → Spread mem first dx 0 keys waits n keys waits n
+module _ {mem : List ℕ} {first : ℕ} {dx : List ℕ} (list : List ℕ) where
+  pub spread-none : {keys waits : List ℕ} {n : ℕ} → length waits ≡ 512 → Spread mem first dx (Among list 0) keys waits n keys waits n
   spread-none long =
       record {
         total = omega arith;
@@ -99,14 +100,14 @@ module _ {mem : List ℕ} {first : ℕ} {dx : List ℕ} where
         waits-length = long;
         grows = omega arith;
         no-more = λ q. omega arith;
-        bound = λ i h. absurd (omega arith);
+        bound = λ i (t, h, e). absurd (omega arith);
         kept = λ t h. refl;
         new = λ t low high. absurd (omega arith);
         joined = λ q h. inl h;
       }
 
-  module _ {i : ℕ} {keys waits : List ℕ} {n : ℕ} {keys₁ waits₁ : List ℕ} {count : ℕ} (s : Spread mem first dx i keys waits n keys₁ waits₁ count)
-      (few : farCount keys + n ≤ 512) {key w child : ℕ} {keys₂ waits₂ : List ℕ} {count₂ : ℕ} (isKey : key ≡ keyOf mem first dx i) (isWord : w ≡ word mem (first + 4 * i + 2)) (isChild : child ≡ w / 65536)
+  module _ {u : ℕ} {keys waits : List ℕ} {n : ℕ} {keys₁ waits₁ : List ℕ} {count : ℕ} (s : Spread mem first dx (Among list u) keys waits n keys₁ waits₁ count)
+      (few : farCount keys + n ≤ 512) {i key w child : ℕ} {keys₂ waits₂ : List ℕ} {count₂ : ℕ} (isRow : i ≡ word list u) (isKey : key ≡ keyOf mem first dx i) (isWord : w ≡ word mem (first + 4 * i + 2)) (isChild : child ≡ w / 65536)
       (isKeys : keys₂ ≡ lowered keys₁ child key) (isWaits : waits₂ ≡ cond (isNew keys₁ child key) (set waits₁ count child) waits₁)
       (isCount : count₂ ≡ cond (isNew keys₁ child key) (count + 1) count) where
     child-is : child ≡ childAt mem first i
@@ -118,21 +119,25 @@ module _ {mem : List ℕ} {first : ℕ} {dx : List ℕ} where
     keys-word : (q : ℕ) → word keys₂ q ≡ word (lowered keys₁ child key) q
     keys-word q = ap (λ (l : List ℕ). word l q) isKeys
 
-    bound-next : (r : ℕ) → r < i + 1 → word keys₂ (childAt mem first r) ≤ keyOf mem first dx r
-    bound-next r hr = by (ℕ-discrete r i)
+    later : (r : ℕ) → Among list u r → Among list (u + 1) r
+    later r (t, h, e) = (t, omega arith, e)
+
+    bound-next : (r : ℕ) → Among list (u + 1) r → keyOf mem first dx r < FAR → word keys₂ (childAt mem first r) ≤ keyOf mem first dx r
+    bound-next r (t, h, e) real = by (ℕ-discrete t u)
       where
-        by : Dec (r ≡ i) → word keys₂ (childAt mem first r) ≤ keyOf mem first dx r
+        by : Dec (t ≡ u) → word keys₂ (childAt mem first r) ≤ keyOf mem first dx r
         by (yes same) =
+            let this : r ≡ i = sym e ∙ ap (word list) same ∙ sym isRow in
             omega (
               arith,
-              ap (λ (k : ℕ). word keys₂ (childAt mem first k)) same,
+              ap (λ (k : ℕ). word keys₂ (childAt mem first k)) this,
               ap (word keys₂) child-is,
               keys-word child,
               lowered-here keys₁ child key,
               isKey,
-              ap (keyOf mem first dx) same,
+              ap (keyOf mem first dx) this,
             )
-        by (no other) = omega (arith, keys-word (childAt mem first r), lowered-no-more keys₁ child key (childAt mem first r), s .bound r (omega (arith, other)))
+        by (no other) = omega (arith, keys-word (childAt mem first r), lowered-no-more keys₁ child key (childAt mem first r), s .bound r (t, omega (arith, other), e) real)
 
     keys-length-next : length keys₂ ≡ length keys
     keys-length-next = ap length isKeys ∙ lowered-length keys₁ child key ∙ s .keys-length
@@ -141,7 +146,7 @@ module _ {mem : List ℕ} {first : ℕ} {dx : List ℕ} where
     no-more-next q = omega (arith, keys-word q, lowered-no-more keys₁ child key q, s .no-more q)
 
     -- nothing joins
-    stay : (word keys₁ child < FAR) ⊎ (FAR ≤ key) → waits₂ ≡ waits₁ → count₂ ≡ count → Spread mem first dx (i + 1) keys waits n keys₂ waits₂ count₂
+    stay : (word keys₁ child < FAR) ⊎ (FAR ≤ key) → waits₂ ≡ waits₁ → count₂ ≡ count → Spread mem first dx (Among list (u + 1)) keys waits n keys₂ waits₂ count₂
     stay why same-waits same-count =
         record {
           total = omega (arith, s .total, ap farCount isKeys, far-lowered keys₁ child key);
@@ -152,8 +157,8 @@ module _ {mem : List ℕ} {first : ℕ} {dx : List ℕ} where
           bound = bound-next;
           kept = λ t h. ap (λ (l : List ℕ). word l t) same-waits ∙ s .kept t h;
           new = λ t low high.
-              let (r, hr, e, none) = s .new t low (omega arith) in
-              (r, omega (arith, hr), ap (λ (l : List ℕ). word l t) same-waits ∙ e, none);
+              let (r, among, e, none) = s .new t low (omega arith) in
+              (r, later r among, ap (λ (l : List ℕ). word l t) same-waits ∙ e, none);
           joined = λ q h. old-joined (⊎-elim (λ old. old) (λ (same, less, near). ⊎-elim (λ some. omega (arith, ap (word keys₁) same)) (λ far. absurd (omega arith)) why) (lowered-found keys₁ child key FAR q (omega (arith, keys-word q))));
         }
       where
@@ -162,7 +167,7 @@ module _ {mem : List ℕ} {first : ℕ} {dx : List ℕ} where
             ⊎-elim inl (λ (t, low, high, e). inr (t, low, omega arith, ap (λ (l : List ℕ). word l t) same-waits ∙ e)) (s .joined q h)
 
     -- the child joins
-    join : key < FAR → FAR ≤ word keys₁ child → waits₂ ≡ set waits₁ count child → count₂ ≡ count + 1 → Spread mem first dx (i + 1) keys waits n keys₂ waits₂ count₂
+    join : key < FAR → FAR ≤ word keys₁ child → waits₂ ≡ set waits₁ count child → count₂ ≡ count + 1 → Spread mem first dx (Among list (u + 1)) keys waits n keys₂ waits₂ count₂
     join near none next-waits next-count =
         record {
           total = omega (arith, s .total, fewer);
@@ -188,26 +193,76 @@ module _ {mem : List ℕ} {first : ℕ} {dx : List ℕ} where
         old-joined : {q : ℕ} → word keys₁ q < FAR → (word keys q < FAR) ⊎ ((t : ℕ) × (n ≤ t) × (t < count₂) × (word waits₂ t ≡ q))
         old-joined {q} h = ⊎-elim inl (λ (t, low, high, e). inr (t, low, omega arith, old-wait t high ∙ e)) (s .joined q h)
 
-        new-next : (t : ℕ) → n ≤ t → t < count₂ → Dec (t ≡ count) → (r : ℕ) × (r < i + 1) × (word waits₂ t ≡ childAt mem first r) × (FAR ≤ word keys (childAt mem first r))
+        new-next : (t : ℕ) → n ≤ t → t < count₂ → Dec (t ≡ count) → (r : ℕ) × Among list (u + 1) r × (word waits₂ t ≡ childAt mem first r) × (FAR ≤ word keys (childAt mem first r))
         new-next t low high (yes same) =
-            (i, omega arith, ap (word waits₂) same ∙ new-wait ∙ child-is, omega (arith, none, s .no-more child, ap (word keys) child-is))
+            (i, (u, omega arith, sym isRow), ap (word waits₂) same ∙ new-wait ∙ child-is, omega (arith, none, s .no-more child, ap (word keys) child-is))
         new-next t low high (no other) =
             let before : t < count = omega (arith, other, high, next-count) in
-            let (r, hr, e, fresh) = s .new t low before in
-            (r, omega (arith, hr), old-wait t before ∙ e, fresh)
+            let (r, among, e, fresh) = s .new t low before in
+            (r, later r among, old-wait t before ∙ e, fresh)
 
-    pub spread-more : Spread mem first dx (i + 1) keys waits n keys₂ waits₂ count₂
+    pub spread-more : Spread mem first dx (Among list (u + 1)) keys waits n keys₂ waits₂ count₂
     spread-more = by given
       where
-        by : KeyGiven keys₁ child key waits₁ count waits₂ count₂ → Spread mem first dx (i + 1) keys waits n keys₂ waits₂ count₂
+        by : KeyGiven keys₁ child key waits₁ count waits₂ count₂ → Spread mem first dx (Among list (u + 1)) keys waits n keys₂ waits₂ count₂
         by (joins near none isSet more) = join near none isSet more
         by (stays why same-waits same-count) = stay why same-waits same-count
 
-  pub spread-all : {i size : ℕ} {keys waits : List ℕ} {n : ℕ} {keys′ waits′ : List ℕ} {n′ : ℕ} → Spread mem first dx i keys waits n keys′ waits′ n′ → i ≤ size → size ≤ i
-      → Spread mem first dx size keys waits n keys′ waits′ n′
-  spread-all {i} {size} {keys} {waits} {n} {keys′} {waits′} {n′} s low high =
-      let same : i ≡ size = omega arith in
-      subst (λ (k : ℕ). Spread mem first dx k keys waits n keys′ waits′ n′) same s
+  pub spread-all : {t count : ℕ} {keys waits : List ℕ} {n : ℕ} {keys′ waits′ : List ℕ} {n′ : ℕ} → Spread mem first dx (Among list t) keys waits n keys′ waits′ n′ → t ≤ count → count ≤ t
+      → Spread mem first dx (Among list count) keys waits n keys′ waits′ n′
+  spread-all {t} {count} {keys} {waits} {n} {keys′} {waits′} {n′} s low high =
+      let same : t ≡ count = omega arith in
+      subst (λ (k : ℕ). Spread mem first dx (Among list k) keys waits n keys′ waits′ n′) same s
+
+-- The rows of two lists have given keys, and no other has one to give.
+module _ {mem : List ℕ} {first : ℕ} {all : Bool} {dx : List ℕ} {size : ℕ} {places near : List ℕ} {known : ℕ} {asked : List ℕ} {count : ℕ} (l : Looked mem first all dx size places near known asked count)
+    {dx′ : List ℕ} {keys waits : List ℕ} {n : ℕ} {keys₁ waits₁ : List ℕ} {n₁ : ℕ} {keys₂ waits₂ : List ℕ} {n₂ : ℕ}
+    (s : Spread mem first dx′ (Among places known) keys waits n keys₁ waits₁ n₁) (s₂ : Spread mem first dx′ (Among asked count) keys₁ waits₁ n₁ keys₂ waits₂ n₂) where
+  -- a row that has a key to give is known, or is asked for
+  listed : (i : ℕ) → i < size → keyOf mem first dx′ i < FAR → Among places known i ⊎ Among asked count i
+  unfolding keyOf isKnown isAsked
+  listed i hi real = by (decLt (nearAt mem first dx i) FAR)
+    where
+      by : Dec (nearAt mem first dx i < FAR) → Among places known i ⊎ Among asked count i
+      by (yes some) = inl (l .knows .all i hi (lt-ltb _ FAR some))
+      by (no none) = inr (l .asks .all i hi (both-pass _ _ (le-leb FAR (nearAt mem first dx i) (omega (arith, none))) (right-true all _ (lt-ltb (belowAt mem first i) FAR (omega arith)))))
+
+  pub spread-listed : Spread mem first dx′ (λ i. i < size) keys waits n keys₂ waits₂ n₂
+  spread-listed =
+      record {
+        total = omega (arith, s .total, s₂ .total);
+        keys-length = s₂ .keys-length ∙ s .keys-length;
+        waits-length = s₂ .waits-length;
+        grows = omega (arith, s .grows, s₂ .grows);
+        no-more = λ q. omega (arith, s .no-more q, s₂ .no-more q);
+        bound = λ i hi real. ⊎-elim
+            (λ among. omega (arith, s .bound i among real, s₂ .no-more (childAt mem first i)))
+            (λ among. s₂ .bound i among real)
+            (listed i hi real);
+        kept = λ t h. s₂ .kept t (omega (arith, s .grows)) ∙ s .kept t h;
+        new = λ t low high. new t low high (decLt t n₁);
+        joined = λ q h. ⊎-elim
+            (λ old. ⊎-elim inl (λ (t, low, high, e). inr (t, low, omega (arith, s₂ .grows), s₂ .kept t high ∙ e)) (s .joined q old))
+            (λ (t, low, high, e). inr (t, omega (arith, s .grows), high, e))
+            (s₂ .joined q h);
+      }
+    where
+      new : (t : ℕ) → n ≤ t → t < n₂ → Dec (t < n₁) → (i : ℕ) × (i < size) × (word waits₂ t ≡ childAt mem first i) × (FAR ≤ word keys (childAt mem first i))
+      new t low high (yes before) =
+          let (i, (u, hu, is), e, fresh) = s .new t low before in
+          (i, omega (arith, l .knows .only u hu .0, is), s₂ .kept t before ∙ e, fresh)
+      new t low high (no after) =
+          let (i, (u, hu, is), e, fresh) = s₂ .new t (omega (arith, after)) high in
+          (i, omega (arith, l .asks .only u hu .0, is), e, omega (arith, fresh, s .no-more (childAt mem first i)))
+
+-- under another name
+pub spread-named : {mem : List ℕ} {first first′ : ℕ} {dx : List ℕ} {Given : ℕ → Type 0} {keys waits : List ℕ} {n : ℕ} {keys′ waits′ : List ℕ} {n′ : ℕ} → first ≡ first′
+    → Spread mem first dx Given keys waits n keys′ waits′ n′ → Spread mem first′ dx Given keys waits n keys′ waits′ n′
+spread-named {mem} {dx = dx} {Given} {keys} {waits} {n} {keys′} {waits′} {n′} f s = subst (λ (a : ℕ). Spread mem a dx Given keys waits n keys′ waits′ n′) f s
+
+pub opened-named : {mem : List ℕ} {p part : ℕ} {all : Bool} {dx keys waits : List ℕ} {n : ℕ} {dx′ keys′ waits′ : List ℕ} {n′ : ℕ} → p ≡ part → OpenedUp mem p all dx keys waits n dx′ keys′ waits′ n′
+    → OpenedUp mem part all dx keys waits n dx′ keys′ waits′ n′
+opened-named {mem} {all = all} {dx} {keys} {waits} {n} {dx′} {keys′} {waits′} {n′} isPart o = subst (λ (q : ℕ). OpenedUp mem q all dx keys waits n dx′ keys′ waits′ n′) isPart o
 
 -- what the arms of `lower_key` leave
 module _ (keys waits : List ℕ) (count part key : ℕ) {at old : ℕ} {keys′ : List ℕ} (isAt : at ≡ part) (isOld : old ≡ word keys at) (isKeys : keys′ ≡ lowered keys at key) where
@@ -235,8 +290,3 @@ module _ (keys waits : List ℕ) (count part key : ℕ) {at old : ℕ} {keys′ 
   key-none far =
       let e : isNew keys part key ≡ false = no-key keys part key far in
       (keys-are, ap (λ (b : Bool). cond b (set waits count part) waits) (sym e), ap (λ (b : Bool). cond b (count + 1) count) (sym e))
-
-pub spread-named : {mem : List ℕ} {first first′ : ℕ} {dx : List ℕ} {size size′ : ℕ} {keys waits : List ℕ} {n : ℕ} {keys′ waits′ : List ℕ} {n′ : ℕ} → first ≡ first′ → size ≡ size′
-    → Spread mem first dx size keys waits n keys′ waits′ n′ → Spread mem first′ dx size′ keys waits n keys′ waits′ n′
-spread-named {mem} {first} {first′} {dx} {size} {size′} {keys} {waits} {n} {keys′} {waits′} {n′} f s c =
-    subst (λ (a : ℕ). Spread mem a dx size′ keys waits n keys′ waits′ n′) f (subst (λ (a : ℕ). Spread mem first dx a keys waits n keys′ waits′ n′) s c)

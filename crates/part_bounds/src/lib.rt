@@ -13,7 +13,7 @@ ghost use lib.ListN.{length, set};
 ghost use Rattle.words.specs.Limits.{FAR};
 ghost use Rattle.words.specs.Lists.{word};
 ghost use Rattle.far_sums.specs.Least.{Least};
-ghost use Rattle.part_bounds.specs.Bounds.{partWord, rowsIn, Gathered, Held, wayIn, wayOver, lowered, isAsked, Closer, isNew, farCount, keyOf, Spread, outOf, keyAt};
+ghost use Rattle.part_bounds.specs.Bounds.{partWord, rowsIn, Looked, wayIn, wayOver, lowered, isAsked, AskedRow, Closer, Relaxed, isNew, farCount, keyOf, Among, Spread, OpenedUp, outOf, keyAt};
 
 pub const MOST_ROWS: usize = 128;
 
@@ -42,57 +42,73 @@ pub fn row_word(mem: &[u32], first: usize, i: usize, w: usize) -> u32
     word(mem, first + 4 * i + w)
 }
 
-// The distance is none, or, where `all` asks, is no nearer than a way by one of the places.
-fn held(
-    mem: &[u32],
-    at: usize,
-    size: usize,
-    places: &[u32],
-    near: &[u32],
-    count: usize,
-    d: u32,
-    all: bool,
-) -> bool
-    requires { ⌜ (at < 2 ^ 33) × (size ≤ 128) × (count ≤ length (now places)) × (count ≤ length (now near)) × ((t : ℕ) → t < count → word (now places) t < size) ⌝ }
-    ensures { λ r. ⌜ Held (now (mem .entry)) at (now (places .entry)) (now (near .entry)) count d r ⌝ }
+// How long a list is after one more entry was written, which counts if `is` is true: a jump would often go the wrong way.
+fn more(n: usize, is: bool) -> usize
+    requires { ⌜ n < 4294967296 ⌝ }
+    ensures { λ r. ⌜ (r ≡ cond is (n + 1) n) × (r ≤ n + 1) ⌝ }
 {
-    if FAR <= d {
-        return true;
+    if is {
+        return n + 1;
     }
-    if !all {
-        return false;
-    }
-    let way = row_way(mem, at, size, places, near, count);
-    way <= d
+    n
 }
 
-// Rows whose vertices have a distance, by way of which every other such row has its own: their places, and the distances.
-fn gather(
+// Row i's distance is asked for.
+fn is_asked(mem: &[u32], first: usize, i: usize, all: bool, dx: &[u32]) -> bool
+    requires { ⌜ (first < 2 ^ 32) × (i ≤ 128) ⌝ }
+    ensures { λ r. ⌜ r ≡ isAsked all (now (mem .entry)) first (now (dx .entry)) i ⌝ }
+{
+    let v = row_word(mem, first, i, 2) % 65536;
+    let d = word(dx, wide(v));
+    let below = wide(row_word(mem, first, i, 3));
+    let shown = word(mem, below + 1);
+    if d < FAR {
+        return false;
+    }
+    if all {
+        return true;
+    }
+    shown < FAR
+}
+
+// Two lists of a part's rows: those whose vertices have a distance, and those whose distance is asked for.
+pub struct Listed {
+    pub known: usize,
+    pub asked: usize,
+}
+
+// Lists the places of the first `size` rows, and the distances of the known ones.
+fn look(
     mem: &[u32],
     first: usize,
-    table: usize,
     size: usize,
     all: bool,
     dx: &[u32],
     places: &mut [u32],
     near: &mut [u32],
-) -> usize
-    requires { ⌜ (first < 2 ^ 32) × (table < 2 ^ 32) × (size ≤ 128) × (length (now places) ≡ 128) × (length (now near) ≡ 128) ⌝ }
-    ensures { λ r. ⌜ Gathered (now (mem .entry)) first table size (now (dx .entry)) size (now (places .exit)) (now (near .exit)) r ⌝ }
+    asked: &mut [u32],
+) -> Listed
+    requires { ⌜ (first < 2 ^ 32) × (size ≤ 128) × (length (now places) ≡ 128) × (length (now near) ≡ 128) × (length (now asked) ≡ 128) ⌝ }
+    ensures { λ r. ⌜ Looked (now (mem .entry)) first all (now (dx .entry)) size (now (places .exit)) (now (near .exit)) (r .known) (now (asked .exit)) (r .asked) ⌝ }
 {
+    let mut known = 0;
     let mut count = 0;
     let mut i = 0;
     while i < size {
         let v = row_word(mem, first, i, 2) % 65536;
         let d = word(dx, wide(v));
-        if !held(mem, table + size * i, size, places, near, count, d, all) {
-            put(places, count, i as u32);
-            put(near, count, d);
-            count += 1;
-        }
+        let is = is_asked(mem, first, i, all, dx);
+        put(places, known, i as u32);
+        put(near, known, d);
+        put(asked, count, i as u32);
+        known = more(known, d < FAR);
+        count = more(count, is);
         i += 1;
     }
-    count
+    Listed {
+        known: known,
+        asked: count,
+    }
 }
 
 // The least way from a row's vertex by way of one of those: the row's words of the table start at `at`.
@@ -153,37 +169,8 @@ pub fn lower(words: &mut [u32], i: usize, x: u32)
     }
 }
 
-// Of the part's rows that have no distance yet, all, or those below which something is shown: each gets as little as a way by way of a row makes it.
-pub fn relax(mem: &[u32], p: usize, all: bool, dx: &mut [u32])
-    requires { ⌜ p < 2 ^ 32 ⌝ }
-    ensures { λ _. ⌜ Closer (now (mem .entry)) (partWord (now (mem .entry)) p 2) (partWord (now (mem .entry)) p 3) (rowsIn (now (mem .entry)) p) all (now (dx .entry)) (rowsIn (now (mem .entry)) p) (now (dx .exit)) ⌝ }
-{
-    let size = rows_in(mem, p);
-    let first = wide(part_word(mem, p, 2));
-    let table = wide(part_word(mem, p, 3));
-    let mut places = [0u32; 128];
-    let mut near = [0u32; 128];
-    let count = gather(mem, first, table, size, all, dx, &mut places, &mut near);
-    relax_rows(mem, first, table, size, all, dx, &places, &near, count);
-}
-
-// A row whose distance is asked for.
-fn is_asked(mem: &[u32], first: usize, i: usize, all: bool, dx: &[u32]) -> bool
-    requires { ⌜ (first < 2 ^ 32) × (i ≤ 128) ⌝ }
-    ensures { λ r. ⌜ r ≡ isAsked all (now (mem .entry)) first (now (dx .entry)) i ⌝ }
-{
-    let v = row_word(mem, first, i, 2) % 65536;
-    if word(dx, wide(v)) < FAR {
-        return false;
-    }
-    if all {
-        return true;
-    }
-    let below = wide(row_word(mem, first, i, 3));
-    word(mem, below + 1) < FAR
-}
-
-fn relax_rows(
+// The rows that are asked for, listed as `look` does: each gets as little as a way by way of a row makes it.
+fn relax_asked(
     mem: &[u32],
     first: usize,
     table: usize,
@@ -192,20 +179,67 @@ fn relax_rows(
     dx: &mut [u32],
     places: &[u32],
     near: &[u32],
+    known: usize,
+    asked: &[u32],
     count: usize,
 )
-    requires { ⌜ (first < 2 ^ 32) × (table < 2 ^ 32) × (size ≤ 128) × Gathered (now mem) first table size (now dx) size (now places) (now near) count ⌝ }
-    ensures { λ _. ⌜ Closer (now (mem .entry)) first table size all (now (dx .entry)) size (now (dx .exit)) ⌝ }
+    requires { ⌜ (first < 2 ^ 32) × (table < 2 ^ 32) × (size ≤ 128) × Looked (now mem) first all (now dx) size (now places) (now near) known (now asked) count ⌝ }
+    ensures { λ _. ⌜ Closer (now (mem .entry)) first table size (now (dx .entry)) (AskedRow all (now (mem .entry)) first size (now (dx .entry))) (now (dx .exit)) ⌝ }
 {
-    let mut i = 0;
-    while i < size {
-        if is_asked(mem, first, i, all, dx) {
-            let way = row_way(mem, table + size * i, size, places, near, count);
-            let v = row_word(mem, first, i, 2) % 65536;
-            lower(dx, wide(v), way);
-        }
-        i += 1;
+    let mut t = 0;
+    while t < count {
+        let i = wide(word(asked, t));
+        let way = row_way(mem, table + size * i, size, places, near, known);
+        let v = row_word(mem, first, i, 2) % 65536;
+        lower(dx, wide(v), way);
+        t += 1;
     }
+}
+
+// The part's rows are listed, and of those that have no distance yet, all, or those below which something is shown, get theirs.
+fn relax_listed(
+    mem: &[u32],
+    p: usize,
+    all: bool,
+    dx: &mut [u32],
+    places: &mut [u32],
+    near: &mut [u32],
+    asked: &mut [u32],
+) -> Listed
+    requires { ⌜ (p < 2 ^ 32) × (length (now places) ≡ 128) × (length (now near) ≡ 128) × (length (now asked) ≡ 128) ⌝ }
+    ensures { λ r. ⌜ Looked (now (mem .entry)) (partWord (now (mem .entry)) p 2) all (now (dx .entry)) (rowsIn (now (mem .entry)) p) (now (places .exit)) (now (near .exit)) (r .known) (now (asked .exit)) (r .asked) × Relaxed (now (mem .entry)) p all (now (dx .entry)) (now (dx .exit)) ⌝ }
+{
+    let size = rows_in(mem, p);
+    let first = wide(part_word(mem, p, 2));
+    let table = wide(part_word(mem, p, 3));
+    let listed = look(mem, first, size, all, dx, places, near, asked);
+    let known = listed.known;
+    let count = listed.asked;
+    relax_asked(
+        mem,
+        first,
+        table,
+        size,
+        all,
+        dx,
+        places,
+        near,
+        known,
+        asked,
+        count,
+    );
+    listed
+}
+
+// Distances for a part's rows.
+pub fn relax(mem: &[u32], p: usize, all: bool, dx: &mut [u32])
+    requires { ⌜ p < 2 ^ 32 ⌝ }
+    ensures { λ _. ⌜ Relaxed (now (mem .entry)) p all (now (dx .entry)) (now (dx .exit)) ⌝ }
+{
+    let mut places = [0u32; 128];
+    let mut near = [0u32; 128];
+    let mut asked = [0u32; 128];
+    relax_listed(mem, p, all, dx, &mut places, &mut near, &mut asked);
 }
 
 // A part's key made less, where `key` is less. A part that had none joins those that wait.
@@ -235,29 +269,55 @@ fn key_of(mem: &[u32], first: usize, i: usize, dx: &[u32]) -> u32
     far_sum(word(mem, below + 1), word(dx, wide(v)))
 }
 
-// Each row of a part gives the child that it lies in a key: no active vertex of the child is nearer by way of that row.
-pub fn spread(
+// Each of the listed rows gives the child that it lies in a key: no active vertex of the child is nearer by way of that row.
+fn spread(
     mem: &[u32],
-    p: usize,
+    first: usize,
+    list: &[u32],
+    count: usize,
     dx: &[u32],
     keys: &mut [u32],
     waits: &mut [u32],
     n: usize,
 ) -> usize
-    requires { ⌜ (p < 2 ^ 32) × (farCount (now keys) + n ≤ 512) × (length (now waits) ≡ 512) ⌝ }
-    ensures { λ r. ⌜ Spread (now (mem .entry)) (partWord (now (mem .entry)) p 2) (now (dx .entry)) (rowsIn (now (mem .entry)) p) (now (keys .entry)) (now (waits .entry)) n (now (keys .exit)) (now (waits .exit)) r ⌝ }
+    requires { ⌜ (first < 2 ^ 32) × (farCount (now keys) + n ≤ 512) × (length (now waits) ≡ 512) × ((t : ℕ) → t < count → word (now list) t ≤ 128) ⌝ }
+    ensures { λ r. ⌜ Spread (now (mem .entry)) first (now (dx .entry)) (Among (now (list .entry)) count) (now (keys .entry)) (now (waits .entry)) n (now (keys .exit)) (now (waits .exit)) r ⌝ }
 {
-    let size = rows_in(mem, p);
-    let first = wide(part_word(mem, p, 2));
-    let mut count = n;
-    let mut i = 0;
-    while i < size {
+    let mut waiting = n;
+    let mut t = 0;
+    while t < count {
+        let i = wide(word(list, t));
         let key = key_of(mem, first, i, dx);
         let child = row_word(mem, first, i, 2) / 65536;
-        count = lower_key(keys, waits, count, child, key);
-        i += 1;
+        waiting = lower_key(keys, waits, waiting, child, key);
+        t += 1;
     }
-    count
+    waiting
+}
+
+// A part's rows get their distances, and its children the keys that these give: what is not listed has none to give.
+pub fn open_up(
+    mem: &[u32],
+    part: u32,
+    all: bool,
+    dx: &mut [u32],
+    keys: &mut [u32],
+    waits: &mut [u32],
+    n: usize,
+) -> usize
+    requires { ⌜ (farCount (now keys) + n ≤ 512) × (length (now waits) ≡ 512) ⌝ }
+    ensures { λ r. ⌜ OpenedUp (now (mem .entry)) part all (now (dx .entry)) (now (keys .entry)) (now (waits .entry)) n (now (dx .exit)) (now (keys .exit)) (now (waits .exit)) r ⌝ }
+{
+    let p = wide(part);
+    let mut places = [0u32; 128];
+    let mut near = [0u32; 128];
+    let mut asked = [0u32; 128];
+    let listed = relax_listed(mem, p, all, dx, &mut places, &mut near, &mut asked);
+    let first = wide(part_word(mem, p, 2));
+    let known = listed.known;
+    let count = listed.asked;
+    let joined = spread(mem, first, &places, known, dx, keys, waits, n);
+    spread(mem, first, &asked, count, dx, keys, waits, joined)
 }
 
 // The distance of row i's vertex, if the row lies in the child c.

@@ -4,10 +4,12 @@ use mathlib.Core.Path.{_≡_, refl, sym, ap, subst, subst⁻¹, _∙_}
 use mathlib.Core.Logic.{_≢_}
 use mathlib.Core.Bool.{Bool, true, false, true≢false}
 use mathlib.Core.List.{List, []}
-use Prim.Native.Nat.{ℕ, zero, suc, _+_, _-_, _≤_, _<_, min}
+use Prim.Native.Nat.{ℕ, zero, suc, _+_, _-_, _*_, _≤_, _<_, min}
 use native.Mathlib.Decide.{ℕ-discrete}
 use native.Mathlib.Omega.{arith}
 use lib.ListN.{length, set, replicate, length-set, length-replicate, getD-replicate}
+use lib.Dec.{ltb}
+use borrow.Author.Tests.{lt-ltb, le-ltb}
 use Rattle.words.specs.Limits.{FAR}
 use Rattle.words.specs.Lists.{word}
 use Rattle.words.proofs.Lists.{all-same}
@@ -22,11 +24,11 @@ use Rattle.best_list.specs.declared.BestList.{BestList}
 use Rattle.best_list.specs.Best.{entries, limitOf, offeredAll}
 use Rattle.van_offers.specs.Offers.{stampIn, leafOffers}
 use Rattle.far_sums.specs.Least.{Least}
-use Rattle.part_bounds.specs.Bounds.{partWord, rowsIn, lowered, Closer, Spread, outOf, keyAt, farCount}
+use Rattle.part_bounds.specs.Bounds.{partWord, rowsIn, lowered, Relaxed, OpenedUp, outOf, keyAt, farCount}
 use Rattle.part_bounds.proofs.Spreading.{far-lowered, far-most}
 use Rattle.question.specs.declared.Search.{Search}
 use Rattle.van_offers.specs.Genuine.{Genuine, listIn}
-use Rattle.question.specs.Kept.{Relaxed, LeafTaken, OpenedUp, BoundOutside, Searching, Shrunk, GoesOn, Fresh}
+use Rattle.question.specs.Kept.{LeafTaken, BoundOutside, Searching, Shrunk, GoesOn, Fresh, closeBy}
 use Rattle.question.proofs.Shown.{parent-read, child-read, leaf-read}
 use Rattle.question.proofs.Turns.{fewer, climbed, part-taken}
 use Rattle.question.proofs.Ends.{FirstLook, leaf-again, leaf-taken, stopped, limit-near, started}
@@ -59,10 +61,20 @@ module _ (mem : List ℕ) (leaf : ℕ) (all : Bool) (dx marks : List ℕ) (best 
         );
       }
 
-pub opened-up : (mem : List ℕ) (part : ℕ) (all : Bool) (dx keys waits : List ℕ) (n : ℕ) {p : ℕ} {dx′ keys′ waits′ : List ℕ} {n′ : ℕ} → p ≡ part → Relaxed mem p all dx dx′
-    → Spread mem (partWord mem p 2) dx′ (rowsIn mem p) keys waits n keys′ waits′ n′ → OpenedUp mem part all dx keys waits n dx′ keys′ waits′ n′
-opened-up mem part all dx keys waits n {dx′ = dx′} {keys′} {waits′} {n′} isPart relaxed spread =
-    subst (λ (q : ℕ). OpenedUp mem q all dx keys waits n dx′ keys′ waits′ n′) isPart (relaxed, spread)
+-- when a search around x comes first
+module _ (mem : List ℕ) (x k : ℕ) where
+  pub close-not : 4 ≤ k → false ≡ closeBy mem x k
+  unfolding closeBy
+  close-not many = rw (le-ltb k 4 many) refl
+
+  pub close-shown : {counts : Counts} {shown leaf there place start first near : ℕ} → k < 4 → counts ≡ countsIn mem → shown ≡ word mem (vertexAt counts x + 0) → leaf ≡ shown
+      → there ≡ word mem (vertexAt counts x + 1) → place ≡ there → start ≡ partWord mem leaf 2 → first ≡ start → near ≡ word mem (first + 4 * place + 1) → ltb near FAR ≡ closeBy mem x k
+  unfolding closeBy
+  close-shown {leaf = leaf} {place = place} {first = first} few isCounts isShown isLeaf isThere isPlace isStart isFirst isNear =
+      let leaf-is : leaf ≡ word mem (vertexAt (countsIn mem) x) = isLeaf ∙ isShown ∙ ap (λ (c : Counts). word mem (vertexAt c x + 0)) isCounts ∙ ap (word mem) (omega arith) in
+      let place-is : place ≡ word mem (vertexAt (countsIn mem) x + 1) = isPlace ∙ isThere ∙ ap (λ (c : Counts). word mem (vertexAt c x + 1)) isCounts in
+      let first-is : first ≡ partWord mem (word mem (vertexAt (countsIn mem) x)) 2 = isFirst ∙ isStart ∙ ap (λ (q : ℕ). partWord mem q 2) leaf-is in
+      rw (lt-ltb k 4 few) (ap (λ (d : ℕ). ltb d FAR) (isNear ∙ (λ i. word mem (first-is i + 4 * place-is i + 1))))
 
 pub bound-root : (mem : List ℕ) (part : ℕ) (dx : List ℕ) → part ≡ 0 → BoundOutside mem part dx FAR
 bound-root mem part dx root = record { root = λ e. refl; other = λ real. absurd (real root) }

@@ -30,9 +30,8 @@ use Rattle.rows.specs.Row.{rowOf, Arrives}
 use Rattle.rows.proofs.Bounds.{row-bound}
 use Rattle.fleet.specs.State.{State, active}
 use Rattle.image.specs.Records.{rowVertex}
-use Rattle.part_bounds.specs.Bounds.{partWord, rowsIn, ownerAt, belowAt, nearAt, isAsked, Apart, Closer}
+use Rattle.part_bounds.specs.Bounds.{partWord, rowsIn, ownerAt, belowAt, nearAt, isAsked, Apart, Relaxed}
 use Rattle.van_offers.specs.Genuine.{Genuine}
-use Rattle.question.specs.Kept.{Relaxed}
 use Rattle.question.proofs.Shown.{rows-read, owner-read, entry-read, row-in, row-below, place-read, shown-arrives, arrives-further}
 
 module _ {m : Map} {s : State} {mem : List ℕ} (g : Genuine m s mem) (p : ℕ) (hp : p < partCount m) {all : Bool} {dx dx′ : List ℕ} (closer : Relaxed mem p all dx dx′) (x : ℕ) (hx : x < m .vertices) where
@@ -58,7 +57,7 @@ module _ {m : Map} {s : State} {mem : List ℕ} (g : Genuine m s mem) (p : ℕ) 
   row-size h = omega (arith, rows-read g p hp)
 
   pub still-honest : ((v : ℕ) → v < m .vertices → dist m v x ≤ word dx v) → (v : ℕ) → v < m .vertices → dist m v x ≤ word dx′ v
-  still-honest honest v hv = omega (arith, bound-is v hv, closer .honest bound most old ways v)
+  still-honest honest v hv = omega (arith, bound-is v hv, closer .honest bound most old (λ i j row. ways i j (row .is-row)) v)
     where
       most : (u : ℕ) → bound u ≤ FAR
       most u = elim (decLt u (m .vertices)) [ yes hu ↦ omega (arith, bound-is u hu, dist-most m net u hu x) | no out ↦ omega (arith, bound-none u (omega (arith, out))) ]
@@ -86,21 +85,6 @@ module _ {m : Map} {s : State} {mem : List ℕ} (g : Genuine m s mem) (p : ℕ) 
     pub is-row : List·Memᴰ by (rowVertices m p)
     pub known : word dx by ≤ dist m by x
     pub splits : dist m r x ≡ dist m r by + dist m by x
-
-  -- the table's distances have no shorter way by a third
-  metric : (a b c : ℕ) → a < rowsIn mem p → b < rowsIn mem p → c < rowsIn mem p
-      → word mem (partWord mem p 3 + rowsIn mem p * a + c) ≤ word mem (partWord mem p 3 + rowsIn mem p * a + b) + word mem (partWord mem p 3 + rowsIn mem p * b + c)
-  metric a b c ha hb hc =
-      let ha′ : a < sizeOf m p = row-size ha in
-      let hb′ : b < sizeOf m p = row-size hb in
-      let hc′ : c < sizeOf m p = row-size hc in
-      omega (
-        arith,
-        entry-read g p hp a c ha′ hc′,
-        entry-read g p hp a b ha′ hb′,
-        entry-read g p hp b c hb′ hc′,
-        dist-triangle m net (rowVertex m p a) (row-below g p hp a ha′) (rowVertex m p b) (rowVertex m p c) (row-below g p hp b hb′),
-      )
 
   -- each vertex has one row
   apart : Apart mem (partWord mem p 2) (rowsIn mem p)
@@ -158,7 +142,7 @@ module _ {m : Map} {s : State} {mem : List ℕ} (g : Genuine m s mem) (p : ℕ) 
         within = omega (arith, place .1, rows-read g p hp)
 
         decided : isAsked all mem (partWord mem p 2) dx (place .0) ≡ true → Dec (dist m r x ≡ FAR) → word dx′ r ≤ dist m r x
-        decided asked (yes far) = omega (arith, at, closer .far apart (place .0) within asked)
+        decided asked (yes far) = omega (arith, at, closer .far (place .0) (record { is-row = within; is-asked = asked }))
         decided asked (no real) =
             let t = split real in
             let (j, hj, same) = place-read g p hp (t .by) (t .is-row) in
@@ -166,7 +150,7 @@ module _ {m : Map} {s : State} {mem : List ℕ} (g : Genuine m s mem) (p : ℕ) 
             omega (
               arith,
               at,
-              closer .ways metric apart (place .0) j within (omega (arith, hj, rows-read g p hp)) asked,
+              closer .ways (place .0) j (record { is-row = within; is-asked = asked }) (omega (arith, hj, rows-read g p hp)),
               entry-read g p hp (place .0) j (place .1) hj,
               ap (word dx) (owner-read g p hp j hj ∙ same),
               t .known,
@@ -183,11 +167,11 @@ module _ {m : Map} {s : State} {mem : List ℕ} (g : Genuine m s mem) (p : ℕ) 
     still-known each v hv some =
         ⊎-elim
         (λ same. omega (arith, same, known v hv (omega (arith, same, some))))
-        (λ (i, hi, asked, owner).
-        let hi′ : i < sizeOf m p = row-size hi in
+        (λ (i, row, owner).
+        let hi′ : i < sizeOf m p = row-size (row .is-row) in
         let is : rowVertex m p i ≡ v = sym (owner-read g p hp i hi′) ∙ owner in
-        subst (λ (k : ℕ). word dx′ k ≤ dist m k x) is (each (rowVertex m p i) (row-in g p hp i hi′) (asked-says i hi′ asked)))
-        (closer .changed apart v)
+        subst (λ (k : ℕ). word dx′ k ≤ dist m k x) is (each (rowVertex m p i) (row-in g p hp i hi′) (asked-says i hi′ (row .is-asked))))
+        (closer .changed v)
 
     -- x stands outside
     module _ (outside : holds m p x ≡ false) (gates : (b : ℕ) → boundary m p b ≡ true → rowOf m (active m s) p b .distance < FAR → word dx b ≤ dist m b x) where

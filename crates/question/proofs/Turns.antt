@@ -30,10 +30,10 @@ use Rattle.fleet.specs.State.{State, active}
 use Rattle.fleet.specs.Question.{Listed, comingFrom, sorted}
 use Rattle.image.specs.Records.{rowVertex}
 use Rattle.far_sums.specs.Least.{Least}
-use Rattle.part_bounds.specs.Bounds.{partWord, rowsIn, ownerAt, childAt, belowAt, nearAt, keyOf, outOf, lowered, Spread}
+use Rattle.part_bounds.specs.Bounds.{partWord, rowsIn, ownerAt, childAt, belowAt, nearAt, keyOf, outOf, lowered, Spread, OpenedUp}
 use Rattle.part_bounds.proofs.Lowering.{lowered-no-more, lowered-here, lowered-found, lowered-length}
 use Rattle.van_offers.specs.Genuine.{Genuine}
-use Rattle.question.specs.Kept.{Relaxed, OpenedUp, BoundOutside, Coming, Covered, Waits, Searching, isOffered}
+use Rattle.question.specs.Kept.{BoundOutside, Coming, Covered, Waits, Searching, isOffered}
 use Rattle.question.proofs.Shown.{parent-read, rows-read, owner-read, child-at-read, below-read, place-read, row-in, child-of-border}
 use Rattle.question.proofs.Exact.{still-honest, exact-out, known-out, exact-in, known-in}
 
@@ -116,7 +116,7 @@ module _ {m : Map} {s : State} {mem : List ℕ} (g : Genuine m s mem) (x : ℕ) 
 
   -- A part p with children was opened up, and its rows have their distances. The child that holds x, if any, has a key already.
   module _ (p : ℕ) (hp : p < partCount m) (inner : isLeaf m p ≡ false) (dx keys waits : List ℕ) (n : ℕ) {keys′ waits′ : List ℕ} {n′ : ℕ}
-      (spread : Spread mem (partWord mem p 2) dx (rowsIn mem p) keys waits n keys′ waits′ n′)
+      (spread : Spread mem (partWord mem p 2) dx (λ i. i < rowsIn mem p) keys waits n keys′ waits′ n′)
       (exact : (r : ℕ) → List·Memᴰ r (rowVertices m p) → ((i : ℕ) → i < sizeOf m p → rowVertex m p i ≡ r → belowAt mem (partWord mem p 2) i < FAR) → word dx r ≤ dist m r x)
       (own : (c : ℕ) → List·Memᴰ c (children m p) → holds m c x ≡ true → word keys c < FAR) where
     border-exact : (c b : ℕ) → List·Memᴰ c (children m p) → boundary m c b ≡ true → rowOf m (active m s) c b .distance < FAR → word dx b ≤ dist m b x
@@ -139,16 +139,22 @@ module _ {m : Map} {s : State} {mem : List ℕ} (g : Genuine m s mem) (x : ℕ) 
         let in-c = boundary-inside m c b (gate .is-boundary) in
         let hb : b < m .vertices = holds-says m c b in-c .0 in
         let child : childOf m p (rowVertex m p i) ≡ c = ap (childOf m p) same ∙ child-found m net tree p c b hb hc in-c in
+        let key : keyOf mem (partWord mem p 2) dx i ≤ dist m v x =
         omega (
           arith,
-          spread .bound i (omega (arith, hi, rows-read g p hp)),
-          ap (word keys′) (child-at-read g p hp inner i hi ∙ child),
           below-read g p hp inner i hi,
           ap (λ (k : ℕ). rowOf m (active m s) k (rowVertex m p i) .distance) child,
           ap (λ (k : ℕ). rowOf m (active m s) c k .distance) same,
           ap (word dx) (owner-read g p hp i hi ∙ same),
           border-exact c b hc (gate .is-boundary) (omega (arith, gate .bounds, comes .reaches)),
           gate .bounds,
+        )
+        in
+        omega (
+          arith,
+          key,
+          spread .bound i (omega (arith, hi, rows-read g p hp)) (omega (arith, key, comes .reaches)),
+          ap (word keys′) (child-at-read g p hp inner i hi ∙ child),
         )
 
     -- a child without a key does not hold x

@@ -2,11 +2,11 @@
 -- lies outside the part climbed to.
 use mathlib.Core.Path.{_≡_}
 use mathlib.Core.Logic.{_⊎_, _≢_}
-use mathlib.Core.Bool.{Bool, true, false}
+use mathlib.Core.Bool.{Bool, true, false, _&&_}
 use mathlib.Core.List.{List, _++_}
 use Prim.Native.Nat.{ℕ, _+_, _*_, _≤_, _<_}
 use lib.ListN.{length, set, take, drop}
-use lib.Dec.{eqb}
+use lib.Dec.{eqb, ltb}
 use Rattle.words.specs.Limits.{FAR}
 use Rattle.words.specs.Lists.{word, keep, gather}
 use Rattle.roads.specs.Map.{Map, partCount}
@@ -16,20 +16,16 @@ use Rattle.parts.specs.Border.{boundary}
 use Rattle.rows.specs.Row.{rowOf}
 use Rattle.fleet.specs.State.{Slot, absent, present, State, slotOf, headOf, active}
 use Rattle.fleet.specs.Question.{Listed, listedWords, comingFrom, sorted, nearest}
-use Rattle.places.specs.Place.{countsIn}
+use Rattle.places.specs.Place.{countsIn, vertexAt}
 use Rattle.best_list.specs.declared.BestList.{BestList}
 use Rattle.best_list.specs.Best.{offeredAll}
 use Rattle.van_offers.specs.Offers.{leafOffers}
 use Rattle.van_offers.specs.Genuine.{Genuine, listIn}
 use Rattle.far_sums.specs.Least.{Least}
-use Rattle.part_bounds.specs.Bounds.{partWord, rowsIn, Closer, Spread, outOf, farCount}
+use Rattle.part_bounds.specs.Bounds.{partWord, rowsIn, Relaxed, outOf, farCount}
 use Rattle.question.specs.declared.Search.{Search}
 
 -- The functions of the search, on any words.
-
--- the distances of a part's rows were made less: of all, or of those below which something is shown
-abbrev pub Relaxed : List ℕ → ℕ → Bool → List ℕ → List ℕ → Type 0
-Relaxed mem p all dx dx′ = Closer mem (partWord mem p 2) (partWord mem p 3) (rowsIn mem p) all dx (rowsIn mem p) dx′
 
 -- a leaf was looked at: nothing changes the second time
 pub record LeafTaken (mem : List ℕ) (leaf : ℕ) (all : Bool) (dx marks : List ℕ) (best : BestList) (k : ℕ) (dx′ marks′ : List ℕ) (best′ : BestList) : Type 0 where
@@ -37,10 +33,6 @@ pub record LeafTaken (mem : List ℕ) (leaf : ℕ) (all : Bool) (dx marks : List
   pub again : word marks leaf ≡ 1 → (dx′ ≡ dx) × (marks′ ≡ marks) × (best′ ≡ best)
   pub first : word marks leaf ≢ 1 → Relaxed mem leaf all dx dx′ × (marks′ ≡ set marks leaf 1)
       × (listIn mem best′ ≡ offeredAll k (listIn mem best) (leafOffers mem (countsIn mem) (partWord mem leaf 2) dx′ (rowsIn mem leaf) 0))
-
--- a part was opened up
-abbrev pub OpenedUp : List ℕ → ℕ → Bool → List ℕ → List ℕ → List ℕ → ℕ → List ℕ → List ℕ → List ℕ → ℕ → Type 0
-OpenedUp mem p all dx keys waits n dx′ keys′ waits′ n′ = Relaxed mem p all dx dx′ × Spread mem (partWord mem p 2) dx′ (rowsIn mem p) keys waits n keys′ waits′ n′
 
 -- the bound of what lies outside a part
 pub record BoundOutside (mem : List ℕ) (part : ℕ) (dx : List ℕ) (out : ℕ) : Type 0 where
@@ -116,6 +108,11 @@ pub record Fresh (dx keys marks waits : List ℕ) : Type 0 where
   pub marks-length : length marks ≡ 512
   pub no-mark : (q : ℕ) → word marks q ≡ 0
   pub waits-length : length waits ≡ 512
+
+-- few vans are asked for, and the row of x in its leaf shows one
+unfoldable pub closeBy : List ℕ → ℕ → ℕ → Bool
+closeBy mem x k =
+    ltb k 4 && ltb (word mem (partWord mem (word mem (vertexAt (countsIn mem) x)) 2 + 4 * word mem (vertexAt (countsIn mem) x + 1) + 1)) FAR
 
 -- the words of a list, and then those of the answer that it leaves
 unfoldable pub written : List Listed → List ℕ → List ℕ

@@ -7,10 +7,10 @@ use far_sums::FAR;
 use near_vans::near_vans;
 use part_bounds::lower;
 use part_bounds::nearest_waiting;
+use part_bounds::open_up;
 use part_bounds::part_word;
 use part_bounds::relax;
 use part_bounds::rows_in;
-use part_bounds::spread;
 use part_bounds::way_out;
 use places::counts_in;
 use van_offers::offer_leaf;
@@ -28,7 +28,10 @@ ghost use Rattle.fleet.specs.State.{State};
 ghost use Rattle.fleet.specs.Question.{nearest};
 ghost use Rattle.part_bounds.specs.Bounds.{farCount};
 ghost use Rattle.van_offers.specs.Genuine.{Genuine, listIn};
-ghost use Rattle.question.specs.Kept.{LeafTaken, OpenedUp, BoundOutside, Searching, Shrunk, GoesOn, Fresh, written};
+ghost use Rattle.question.specs.Kept.{LeafTaken, BoundOutside, Searching, Shrunk, GoesOn, Fresh, closeBy, written};
+
+// So many vans are no longer few.
+const FEW: usize = 4;
 
 // A search between two turns: the best so far, the part climbed to, the bound of what lies outside it, and how many parts wait.
 pub struct Search {
@@ -61,24 +64,6 @@ fn take_leaf(
     let size = rows_in(mem, p);
     let first = wide(part_word(mem, p, 2));
     offer_leaf(mem, counts_in(mem), first, size, dx, best, k)
-}
-
-// A part with children is opened up: its borders, all or those that an active vertex of their child reaches, get their distances, and its children wait.
-fn open_up(
-    mem: &[u32],
-    part: u32,
-    all: bool,
-    dx: &mut [u32],
-    keys: &mut [u32],
-    waits: &mut [u32],
-    n: usize,
-) -> usize
-    requires { ⌜ (farCount (now keys) + n ≤ 512) × (length (now waits) ≡ 512) ⌝ }
-    ensures { λ r. ⌜ OpenedUp (now (mem .entry)) part all (now (dx .entry)) (now (keys .entry)) (now (waits .entry)) n (now (dx .exit)) (now (keys .exit)) (now (waits .exit)) r ⌝ }
-{
-    let p = wide(part);
-    relax(mem, p, all, dx);
-    spread(mem, p, dx, keys, waits, n)
 }
 
 // The bound of what lies outside a part: FAR for the root.
@@ -266,14 +251,31 @@ fn search_at(
     search_on(mem, k, dx, keys, marks, waits, s)
 }
 
+// A search around x is likely to be short: few vans are asked for, and x's leaf has an active vertex from which x is reached.
+fn close_by(mem: &[u32], x: u32, k: usize) -> bool
+    ensures { λ r. ⌜ r ≡ closeBy (now (mem .entry)) x k ⌝ }
+{
+    let counts = counts_in(mem);
+    let leaf = wide(vertex_word(mem, counts, x, 0));
+    let place = wide(vertex_word(mem, counts, x, 1));
+    let first = wide(part_word(mem, leaf, 2));
+    let near = word(mem, first + 4 * place + 1);
+    if FEW <= k {
+        return false;
+    }
+    near < FAR
+}
+
 // The first k of all free vans that can reach x, in order of distance and then van number.
 pub fn nearest_vans(mem: &[u32], x: u32, k: usize) -> BestList
     requires { ⌜ (1 ≤ k) × (k ≤ 32) ⌝ }
     ensures { λ r. ⌜ (r .len ≤ k) × ((m : Map) (fleet : State) → Genuine m fleet (now (mem .entry)) → x < m .vertices → listIn (now (mem .entry)) r ≡ nearest m fleet x k) ⌝ }
 {
-    let near = near_vans(mem, x, k);
-    if near.done {
-        return near.best;
+    if close_by(mem, x, k) {
+        let near = near_vans(mem, x, k);
+        if near.done {
+            return near.best;
+        }
     }
     over_parts(mem, x, k)
 }

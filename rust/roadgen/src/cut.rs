@@ -1,13 +1,53 @@
-//! Cuts a network into a tree of parts: halves by a line across the longer or the shorter side, again and again, and then parts are
-//! handed up to their grandparent while it keeps within its limits.
+//! Cuts a network into a tree of parts: halves where the fewest streets lie between the two ends of a set, again and again, and then parts
+//! are handed up to their grandparent while it has few borders. Vertices are numbered leaf by leaf.
 
-use crate::{
-    Map, Network, MOST_BORDERS, MOST_CHILDREN, MOST_IN_LEAF, MOST_LEVELS, MOST_PARTS, NO_PARENT,
-};
+use crate::flow::side;
+use crate::{Map, Network, Road, MOST_BORDERS, MOST_IN_LEAF, MOST_LEVELS, MOST_PARTS, NO_PARENT};
+use std::collections::{BTreeSet, HashMap};
+use std::f64::consts::PI;
+
+/// Of how many directions each is tried for a cut.
+const DIRECTIONS: usize = 8;
+/// How much of a set is kept together at either end, in hundredths.
+const ENDS: [usize; 3] = [25, 35, 45];
+/// How many borders more a cut may have that makes equal halves of what another leaves all on one side.
+const UNEQUAL: usize = 2;
+/// As many children, and as many borders, a part gets when its children's children are handed up.
+const FEW_CHILDREN: usize = 4;
+const FEW_BORDERS: usize = 30;
+
+type Halves = (Vec<usize>, Vec<usize>);
 
 struct Part {
     vertices: Vec<usize>,
     children: Vec<Part>,
+}
+
+impl Part {
+    /// Numbers the part's vertices from `next` on, leaf by leaf; the number after the last.
+    fn number_leaf_by_leaf(&self, numbers: &mut [u16], next: u16) -> u16 {
+        if self.children.is_empty() {
+            for (i, &v) in self.vertices.iter().enumerate() {
+                numbers[v] = next + i as u16;
+            }
+            return next + self.vertices.len() as u16;
+        }
+        let children = self.children.iter();
+        children.fold(next, |next, child| child.number_leaf_by_leaf(numbers, next))
+    }
+}
+
+fn renumbered(roads: &[Road], numbers: &[u16]) -> Vec<Road> {
+    let mut roads: Vec<Road> = roads
+        .iter()
+        .map(|road| Road {
+            from: numbers[usize::from(road.from)],
+            to: numbers[usize::from(road.to)],
+            ..*road
+        })
+        .collect();
+    roads.sort();
+    roads
 }
 
 struct Cutter<'a> {
@@ -43,46 +83,78 @@ impl Cutter<'_> {
         count
     }
 
-    /// The two halves with the fewest borders, among lines across both sides that leave neither half below two fifths (when cut finely,
-    /// that leave equal halves).
-    fn halves(&mut self, vertices: &[usize]) -> (Vec<usize>, Vec<usize>) {
-        let n = vertices.len();
-        let mut best: Option<(usize, usize, Vec<usize>, usize)> = None;
-        for side in 0..2 {
-            let mut order = vertices.to_vec();
-            order.sort_by_key(|&v| {
-                let (x, y) = self.network.places[v];
-                if side == 0 {
-                    (x, y)
-                } else {
-                    (y, x)
+    /// Equal halves by the line, across one side or the other, that leaves the fewest borders.
+    fn equal_halves(&mut self, vertices: &[usize]) -> Halves {
+        let halves = [0, 2 * DIRECTIONS / 4].map(|direction| {
+            let order = self.along(direction, vertices);
+            let (a, b) = order.split_at(order.len() / 2);
+            (a.to_vec(), b.to_vec())
+        });
+        self.best_of(halves)
+    }
+
+    /// The two halves with the fewest borders, and of like ones the most equal, among those parted by the fewest streets between
+    /// the first and the last vertices in some direction.
+    fn halves(&mut self, vertices: &[usize]) -> Halves {
+        let mut place = HashMap::new();
+        for (i, &v) in vertices.iter().enumerate() {
+            place.insert(v, i);
+        }
+        let neighbours: Vec<Vec<usize>> = vertices
+            .iter()
+            .map(|&v| {
+                let near = self.neighbours[v].iter();
+                let near: BTreeSet<usize> = near.filter_map(|u| place.get(u).copied()).collect();
+                near.into_iter().collect()
+            })
+            .collect();
+        let mut halves = Vec::new();
+        for direction in 0..DIRECTIONS {
+            let order: Vec<usize> = self
+                .along(direction, vertices)
+                .iter()
+                .map(|v| place[v])
+                .collect();
+            for percent in ENDS {
+                let end = (order.len() * percent / 100).max(1);
+                let (first, last) = (&order[..end], &order[order.len() - end..]);
+                for (from, to) in [(first, last), (last, first)] {
+                    let side = side(&neighbours, from, to);
+                    let pick = |is: bool| {
+                        (0..side.len())
+                            .filter(|&i| side[i] == is)
+                            .map(|i| vertices[i])
+                            .collect()
+                    };
+                    halves.push((pick(true), pick(false)));
                 }
-            });
-            let (low, high) = if self.finely {
-                (n / 2, n / 2)
-            } else {
-                (n * 2 / 5, n - n * 2 / 5)
-            };
-            let step = ((high - low) / 12).max(1);
-            let mut at = n / 2 - (n / 2 - low) / step * step;
-            while at <= high {
-                if 0 < at && at < n {
-                    let (a, b) = order.split_at(at);
-                    let borders = self.borders(&[a, b]);
-                    let off = at.abs_diff(n / 2);
-                    if best
-                        .as_ref()
-                        .is_none_or(|(least, far, _, _)| (borders, off) < (*least, *far))
-                    {
-                        best = Some((borders, off, order.clone(), at));
-                    }
-                }
-                at += step;
             }
         }
-        let (_, _, order, at) = best.expect("a set of two or more vertices has two halves");
-        let (a, b) = order.split_at(at);
-        (a.to_vec(), b.to_vec())
+        self.best_of(halves)
+    }
+
+    /// The vertices in the order in which a line meets them that moves in this direction.
+    fn along(&self, direction: usize, vertices: &[usize]) -> Vec<usize> {
+        let angle = PI * direction as f64 / DIRECTIONS as f64;
+        let (cos, sin) = (angle.cos(), angle.sin());
+        let far = |v: usize| {
+            let (x, y) = self.network.places[v];
+            x as f64 * cos + y as f64 * sin
+        };
+        let mut order = vertices.to_vec();
+        order.sort_by(|&a, &b| far(a).total_cmp(&far(b)).then(a.cmp(&b)));
+        order
+    }
+
+    /// Those with the least sum of borders and of what they are off from equal halves, in hundredths of UNEQUAL borders.
+    fn best_of(&mut self, halves: impl IntoIterator<Item = Halves>) -> Halves {
+        halves
+            .into_iter()
+            .min_by_key(|(a, b)| {
+                let off = 100 * a.len().abs_diff(b.len()) / (a.len() + b.len());
+                100 * self.borders(&[a, b]) + UNEQUAL * off
+            })
+            .expect("there is a direction")
     }
 
     fn part(&mut self, vertices: Vec<usize>) -> Part {
@@ -97,16 +169,19 @@ impl Cutter<'_> {
                 children: Vec::new(),
             };
         }
-        let (a, b) = self.halves(&vertices);
+        let (a, b) = if self.finely {
+            self.equal_halves(&vertices)
+        } else {
+            self.halves(&vertices)
+        };
         let mut children = vec![self.part(a), self.part(b)];
         if self.finely {
             return Part { vertices, children };
         }
-        // a child's children in its place, while the borders stay within a little more than half of the limit
+        // a child's children in its place, while there are few borders
         while let Some(i) = (0..children.len()).find(|&i| {
             let child = &children[i];
-            if child.children.is_empty()
-                || children.len() - 1 + child.children.len() > MOST_CHILDREN / 2
+            if child.children.is_empty() || children.len() - 1 + child.children.len() > FEW_CHILDREN
             {
                 return false;
             }
@@ -122,7 +197,7 @@ impl Cutter<'_> {
                 })
                 .map(|c| c.vertices.as_slice())
                 .collect();
-            self.borders(&sets) <= MOST_BORDERS * 5 / 8
+            self.borders(&sets) <= FEW_BORDERS
         }) {
             let child = children.remove(i);
             children.extend(child.children);
@@ -136,7 +211,7 @@ impl Cutter<'_> {
             return;
         };
         if last.children.is_empty() && last.vertices.len() > 1 {
-            let (a, b) = self.halves(&last.vertices);
+            let (a, b) = self.equal_halves(&last.vertices);
             part.children.extend([a, b].map(|vertices| Part {
                 vertices,
                 children: Vec::new(),
@@ -177,10 +252,12 @@ fn cut_so(network: &Network, finely: bool) -> Option<Map> {
     if finely {
         cutter.halve_last_leaf(&mut whole);
     }
+    let mut numbers = vec![0; n];
+    whole.number_leaf_by_leaf(&mut numbers, 0);
     let mut map = Map {
         parents: Vec::new(),
         leaves: vec![0; n],
-        roads: network.roads.clone(),
+        roads: renumbered(&network.roads, &numbers),
     };
     // level by level, so that a parent has a lower number than its children
     let mut level = vec![(&whole, NO_PARENT)];
@@ -193,7 +270,7 @@ fn cut_so(network: &Network, finely: bool) -> Option<Map> {
             map.parents.push(parent);
             if part.children.is_empty() {
                 for &v in &part.vertices {
-                    map.leaves[v] = number;
+                    map.leaves[usize::from(numbers[v])] = number;
                 }
             } else {
                 let sets: Vec<&[usize]> = part

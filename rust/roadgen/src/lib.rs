@@ -4,6 +4,7 @@
 //! [`cut_finely`] into as many parts as they allow, [`Map::bytes`] writes the four records, [`fleet`] places vans on its roads, and [`road_words`] lays the roads out as the memory has them.
 
 mod cut;
+mod flow;
 mod map;
 mod network;
 mod random;

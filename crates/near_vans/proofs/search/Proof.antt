@@ -17,7 +17,7 @@ abbrev Inv-loop : tie.InvT-loop
 Inv-loop mem x k at₀ labels₀ vertices₀ counts best₀ n₀ turns₀ at labels vertices best n turns = (best .len ≤ k) × (n ≤ 128) × Keeps mem x k at labels vertices n best
 
 abbrev μ-loop : tie.MeasureT-loop
-μ-loop mem x k at₀ labels₀ vertices₀ counts best₀ n₀ turns₀ at labels vertices best n turns = 384 - turns
+μ-loop mem x k at₀ labels₀ vertices₀ counts best₀ n₀ turns₀ at labels vertices best n turns = 64 - turns
 
 loop-holds : tie.Need-loop-holds Inv-loop μ-loop
 loop-holds c = (omega arith, omega arith, begun _ _ _ (c .before .before .before .before .before .before .before .pre .0) (c .empty .result) (c .before .before .before .before .before .before .before .pre .2) (c .before .start .ensures) (c .empty .ensures))
@@ -37,36 +37,33 @@ returns-2 c =
     )
 
 returns-3 : tie.Need-returns-3 Inv-loop μ-loop
-returns-3 c = (c .before .before .before .before .before .before .before .before .before .loop .inv .0, λ m fleet g hx done. absurd (true≢false (sym done)))
-
-returns-4 : tie.Need-returns-4 Inv-loop μ-loop
-returns-4 c = (
-  elim (c .before .before .before .before .before .before .if4 .came) [ inl t ↦ rw (t .2) (t .1 .ensures .0) | inr t ↦ rw (t .1) (c .before .before .before .before .before .before .before .before .before .before .before .before .before .before .before .before .before .before .before .before .before .loop .inv .0) ],
+returns-3 c = (
+  elim (c .before .before .before .before .before .before .if3 .came) [ inl t ↦ rw (t .2) (t .1 .ensures .0) | inr t ↦ rw (t .1) (c .before .before .before .before .before .before .before .before .before .before .before .before .before .before .before .before .before .before .before .loop .inv .0) ],
   λ m fleet g hx done. absurd (true≢false (sym done)),
 )
 
 loop-again : tie.Need-loop-again Inv-loop μ-loop
 loop-again c =
-    let l = c .before .before .before .before .before .before .before .before .before .before .before .before .before .before .before .before .before .before .before .before .before .loop in
-    let s = c .before .before .before .before .before .before .before .before .before .before .before .before .before .before .before .before .before .before .before .before .before .before .before .before .before .before .before .before .before in
-    let counts-are = c .before .before .before .before .before .before .before .before .before .before .before .before .before .before .before .before .before .before .before .before .before .before .before .before .before .before .before .counts-in .ensures in
-    elim (c .before .before .before .before .before .before .if4 .came) [
+    let l = c .before .before .before .before .before .before .before .before .before .before .before .before .before .before .before .before .before .before .before .loop in
+    let s = c .before .before .before .before .before .before .before .before .before .before .before .before .before .before .before .before .before .before .before .before .before .before .before .before .before .before .before in
+    let counts-are = c .before .before .before .before .before .before .before .before .before .before .before .before .before .before .before .before .before .before .before .before .before .before .before .before .before .counts-in .ensures in
+    elim (c .before .before .before .before .before .before .if3 .came) [
       | inl t ↦ rw (t .2) (
         t .1 .ensures .0,
         omega arith,
-        goes-on _ _ _ (s .pre .0) (l .best) (l .inv .2) (c .before .before .before .before .before .before .before .before .before .before .before .before .before .before .before .before .before .least .ensures) refl (t .1 .result) (c .before .before .before .before .before .before .before .before .take .ensures) counts-are (c .before .before .before .before .before .before .before .vertex-word .ensures) (c .before .before .before .before .before .vertex-word2 .ensures)
-            (some-offered (s .args .mem .now) (getD (l .labels) (c .before .before .before .before .before .before .before .before .before .before .before .before .before .before .before .before .before .least .result) 0) (s .args .k) (c .before .before .before .before .before .before .before .vertex-word .result) (l .best) (t .1 .result) counts-are (t .1 .ensures .1)) (c .before .meet-all .ensures) (omega arith),
+        goes-on _ _ _ (s .pre .0) (l .best) (l .inv .2) (c .before .before .before .before .before .before .before .before .before .before .before .before .before .before .before .least .ensures) refl (t .1 .result) (c .before .before .before .before .before .before .before .before .take .ensures) counts-are (c .before .before .before .before .before .before .before .vertex-word .ensures) (c .before .before .before .before .before .vertex-word2 .ensures)
+            (some-offered (s .args .mem .now) (getD (l .labels) (c .before .before .before .before .before .before .before .before .before .before .before .before .before .before .before .least .result) 0) (s .args .k) (c .before .before .before .before .before .before .before .vertex-word .result) (l .best) (t .1 .result) counts-are (t .1 .ensures .1)) (c .before .meet-all .ensures) (omega arith),
       )
       | inr t ↦ rw (t .1) (
         l .inv .0,
         omega arith,
-        goes-on _ _ _ (s .pre .0) (l .best) (l .inv .2) (c .before .before .before .before .before .before .before .before .before .before .before .before .before .before .before .before .before .least .ensures) refl (l .best) (c .before .before .before .before .before .before .before .before .take .ensures) counts-are (c .before .before .before .before .before .before .before .vertex-word .ensures) (c .before .before .before .before .before .vertex-word2 .ensures)
+        goes-on _ _ _ (s .pre .0) (l .best) (l .inv .2) (c .before .before .before .before .before .before .before .before .before .before .before .before .before .before .before .least .ensures) refl (l .best) (c .before .before .before .before .before .before .before .before .take .ensures) counts-are (c .before .before .before .before .before .before .before .vertex-word .ensures) (c .before .before .before .before .before .vertex-word2 .ensures)
             (none-offered _ _ _ _ _ _ (t .0 .left)) (c .before .meet-all .ensures) (omega arith),
       )
     ]
 
-returns-5 : tie.Need-returns-5 Inv-loop μ-loop
-returns-5 c = (c .before .loop .inv .0, λ m fleet g hx done. absurd (true≢false (sym done)))
+returns-4 : tie.Need-returns-4 Inv-loop μ-loop
+returns-4 c = (c .before .loop .inv .0, λ m fleet g hx done. absurd (true≢false (sym done)))
 
 pub search-spec : {M : Type 1} → statement M
 search-spec =
@@ -85,15 +82,13 @@ search-spec =
     (search needs)
     returns-2
     (search needs)
+    (search needs)
+    (search needs)
+    (search needs)
+    (search needs)
+    (search needs)
     returns-3
     (search needs)
     (search needs)
-    (search needs)
-    (search needs)
-    (search needs)
-    (search needs)
-    returns-4
-    (search needs)
-    (search needs)
     loop-again
-    returns-5)
+    returns-4)

@@ -7,13 +7,13 @@ use Rattle.part_bounds.proofs.is_asked.Statement.{statement}
 use Rattle.part_bounds.proofs.is_asked.Tie as tie
 
 returns : tie.Need-returns
-returns c = asked-known _ _ _ _ (c .before .before .before .row-word .ensures) _ (c .before .before .wide .ensures) (c .before .word .ensures) (c .if1 .taken)
+returns c = asked-known _ _ _ _ (c .before .before .before .before .before .before .row-word .ensures) _ (c .before .before .before .before .before .wide .ensures) (c .before .before .before .before .word .ensures) (c .if1 .taken)
 
 returns-2 : tie.Need-returns-2
-returns-2 c = asked-all _ _ _ _ (c .before .before .before .before .row-word .ensures) (c .before .before .before .wide .ensures) (c .before .before .word .ensures) (c .before .if1 .left) (c .if2 .taken)
+returns-2 c = asked-all _ _ _ _ (c .before .before .before .before .before .before .before .row-word .ensures) (c .before .before .before .before .before .before .wide .ensures) (c .before .before .before .before .before .word .ensures) (c .before .if1 .left) (c .if2 .taken)
 
 returns-3 : tie.Need-returns-3
-returns-3 c = asked-shown _ _ _ _ (c .before .before .before .before .before .before .before .row-word .ensures) (c .before .before .before .before .before .before .wide .ensures) (c .before .before .before .before .before .word .ensures) (c .before .before .before .before .if1 .left) (c .before .before .before .if2 .left) (c .before .before .row-word2 .ensures) (c .before .wide2 .ensures) (c .word2 .ensures)
+returns-3 c = asked-shown _ _ _ _ (c .before .before .before .before .before .before .before .row-word .ensures) (c .before .before .before .before .before .before .wide .ensures) (c .before .before .before .before .before .word .ensures) (c .before .if1 .left) (c .if2 .left) (c .before .before .before .before .row-word2 .ensures) (c .before .before .before .wide2 .ensures) (c .before .before .word2 .ensures)
 
 pub is-asked-spec : {M : Type 1} → statement M
 is-asked-spec =
@@ -22,10 +22,10 @@ is-asked-spec =
     (search needs)
     (search needs)
     (search needs)
+    (search needs)
+    (search needs)
+    (search needs)
+    (search needs)
     returns
     returns-2
-    (search needs)
-    (search needs)
-    (search needs)
-    (search needs)
     returns-3)

@@ -8,7 +8,7 @@ use Rattle.words.specs.Lists.{word}
 use Rattle.far_sums.specs.Least.{Least}
 use Rattle.far_sums.proofs.Least.{least-none, least-lower-by, least-stays-by, least-all}
 use Rattle.part_bounds.specs.Bounds.{wayOver}
-use Rattle.part_bounds.proofs.Gathering.{over-next}
+use Rattle.part_bounds.proofs.Ways.{over-next}
 use borrow.Author.Needs.{needs}
 use Rattle.part_bounds.proofs.least_in.Statement.{statement}
 use Rattle.part_bounds.proofs.least_in.Tie as tie

@@ -7,7 +7,7 @@ use native.Mathlib.Omega.{arith}
 use Rattle.far_sums.specs.Least.{Least}
 use Rattle.far_sums.proofs.Least.{least-none, least-lower, least-stays, least-all}
 use Rattle.part_bounds.specs.Bounds.{wayIn}
-use Rattle.part_bounds.proofs.Gathering.{way-next}
+use Rattle.part_bounds.proofs.Ways.{way-next}
 use borrow.Author.Needs.{needs}
 use Rattle.part_bounds.proofs.least_way.Statement.{statement}
 use Rattle.part_bounds.proofs.least_way.Tie as tie

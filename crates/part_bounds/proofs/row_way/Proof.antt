@@ -2,7 +2,7 @@
 -- Assumes nothing.
 use Prim.Native.Nat.{ℕ, _≤_, _<_}
 use native.Mathlib.Omega.{arith}
-use Rattle.part_bounds.proofs.Gathering.{over-row, row-fits, cut-row}
+use Rattle.part_bounds.proofs.Ways.{over-row, row-fits, cut-row}
 use borrow.Author.Needs.{needs}
 use Rattle.part_bounds.proofs.row_way.Statement.{statement}
 use Rattle.part_bounds.proofs.row_way.Tie as tie
