@@ -12,13 +12,12 @@ demo:
 	@tools/demo
 
 bench:
-	rt staticlib road_search_c
-	rt staticlib hailtrellis_c
+	tools/archive road_search_c hailtrellis_c
 	cd rust && cargo run --release --quiet -p bench -- all
 	cd rust && cargo run --release --quiet -p picture -- ../docs
 
 fuzz:
-	rt staticlib hailtrellis_c
+	tools/archive hailtrellis_c
 	$(MAKE) -C rust fuzz N=$(N)
 
 picture:

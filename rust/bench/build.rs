@@ -1,5 +1,5 @@
 //! Links the archive of the search, `libroad_search_c.a`: from the directory that HAILTRELLIS_LIB_DIR names, otherwise from
-//! `target/staticlib` of the repository, where `rt staticlib` writes it. The core's own archive comes with the wrapper `hailtrellis`.
+//! `target/staticlib` of the repository, where `tools/archive` writes it. The core's own archive comes with the wrapper `hailtrellis`.
 
 use std::env;
 use std::path::{Path, PathBuf};

@@ -17,7 +17,7 @@ fn main() {
     println!("cargo:rerun-if-changed={}", archive.display());
     if !archive.exists() {
         println!(
-            "cargo:warning={} is not there; `rt staticlib hailtrellis_c` makes it",
+            "cargo:warning={} is not there; `tools/archive hailtrellis_c` makes it",
             archive.display()
         );
     }
