@@ -27,7 +27,7 @@ pub struct Near {
 }
 
 // At most so many vertices are taken.
-const MOST: usize = 64;
+const MOST: usize = 128;
 
 // How many vertices can wait, and how many roads into a vertex are looked at.
 const ROOM: usize = 128;

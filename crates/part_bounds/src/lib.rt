@@ -13,7 +13,7 @@ ghost use lib.ListN.{length, set};
 ghost use Rattle.words.specs.Limits.{FAR};
 ghost use Rattle.words.specs.Lists.{word};
 ghost use Rattle.far_sums.specs.Least.{Least};
-ghost use Rattle.part_bounds.specs.Bounds.{partWord, rowsIn, Looked, wayIn, wayOver, lowered, isAsked, AskedRow, Closer, Relaxed, isNew, farCount, keyOf, Among, Spread, OpenedUp, outOf, keyAt};
+ghost use Rattle.part_bounds.specs.Bounds.{partWord, rowsIn, activeRows, Looked, wayIn, wayOver, lowered, isAsked, AskedRow, Closer, Relaxed, isNew, farCount, keyOf, Among, Spread, OpenedUp, outOf, keyAt};
 
 pub const MOST_ROWS: usize = 128;
 
@@ -49,6 +49,21 @@ fn more(n: usize, is: bool) -> usize
 {
     if is {
         return n + 1;
+    }
+    n
+}
+
+// How many of a leaf's rows show their own vertex: those of its active vertices.
+pub fn active_rows(mem: &[u32], first: usize, size: usize) -> usize
+    requires { ⌜ (first < 2 ^ 32) × (size ≤ 128) ⌝ }
+    ensures { λ r. ⌜ (r ≡ activeRows (now (mem .entry)) first size 0) × (r ≤ size) ⌝ }
+{
+    let mut n = 0;
+    let mut i = 0;
+    while i < size {
+        let near = row_word(mem, first, i, 1);
+        n = more(n, near == 0);
+        i += 1;
     }
     n
 }

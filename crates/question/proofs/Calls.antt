@@ -8,8 +8,7 @@ use Prim.Native.Nat.{ℕ, zero, suc, _+_, _-_, _*_, _≤_, _<_, min}
 use native.Mathlib.Decide.{ℕ-discrete}
 use native.Mathlib.Omega.{arith}
 use lib.ListN.{length, set, replicate, length-set, length-replicate, getD-replicate}
-use lib.Dec.{ltb}
-use borrow.Author.Tests.{lt-ltb, le-ltb}
+use lib.Dec.{leb}
 use Rattle.words.specs.Limits.{FAR}
 use Rattle.words.specs.Lists.{word}
 use Rattle.words.proofs.Lists.{all-same}
@@ -24,7 +23,7 @@ use Rattle.best_list.specs.declared.BestList.{BestList}
 use Rattle.best_list.specs.Best.{entries, limitOf, offeredAll}
 use Rattle.van_offers.specs.Offers.{stampIn, leafOffers}
 use Rattle.far_sums.specs.Least.{Least}
-use Rattle.part_bounds.specs.Bounds.{partWord, rowsIn, lowered, Relaxed, OpenedUp, outOf, keyAt, farCount}
+use Rattle.part_bounds.specs.Bounds.{partWord, rowsIn, activeRows, lowered, Relaxed, OpenedUp, outOf, keyAt, farCount}
 use Rattle.part_bounds.proofs.Spreading.{far-lowered, far-most}
 use Rattle.question.specs.declared.Search.{Search}
 use Rattle.van_offers.specs.Genuine.{Genuine, listIn}
@@ -62,19 +61,14 @@ module _ (mem : List ℕ) (leaf : ℕ) (all : Bool) (dx marks : List ℕ) (best 
       }
 
 -- when a search around x comes first
-module _ (mem : List ℕ) (x k : ℕ) where
-  pub close-not : 4 ≤ k → false ≡ closeBy mem x k
-  unfolding closeBy
-  close-not many = rw (le-ltb k 4 many) refl
-
-  pub close-shown : {counts : Counts} {shown leaf there place start first near : ℕ} → k < 4 → counts ≡ countsIn mem → shown ≡ word mem (vertexAt counts x + 0) → leaf ≡ shown
-      → there ≡ word mem (vertexAt counts x + 1) → place ≡ there → start ≡ partWord mem leaf 2 → first ≡ start → near ≡ word mem (first + 4 * place + 1) → ltb near FAR ≡ closeBy mem x k
-  unfolding closeBy
-  close-shown {leaf = leaf} {place = place} {first = first} few isCounts isShown isLeaf isThere isPlace isStart isFirst isNear =
-      let leaf-is : leaf ≡ word mem (vertexAt (countsIn mem) x) = isLeaf ∙ isShown ∙ ap (λ (c : Counts). word mem (vertexAt c x + 0)) isCounts ∙ ap (word mem) (omega arith) in
-      let place-is : place ≡ word mem (vertexAt (countsIn mem) x + 1) = isPlace ∙ isThere ∙ ap (λ (c : Counts). word mem (vertexAt c x + 1)) isCounts in
-      let first-is : first ≡ partWord mem (word mem (vertexAt (countsIn mem) x)) 2 = isFirst ∙ isStart ∙ ap (λ (q : ℕ). partWord mem q 2) leaf-is in
-      rw (lt-ltb k 4 few) (ap (λ (d : ℕ). ltb d FAR) (isNear ∙ (λ i. word mem (first-is i + 4 * place-is i + 1))))
+pub close-is : (mem : List ℕ) (x k : ℕ) {counts : Counts} {shown leaf size start first active : ℕ} → counts ≡ countsIn mem → shown ≡ word mem (vertexAt counts x + 0) → leaf ≡ shown → size ≡ rowsIn mem leaf
+    → start ≡ partWord mem leaf 2 → first ≡ start → active ≡ activeRows mem first size 0 → leb (k * size) (64 * active) ≡ closeBy mem x k
+unfolding closeBy
+close-is mem x k {leaf = leaf} {size} {first = first} isCounts isShown isLeaf isSize isStart isFirst isActive =
+    let leaf-is : leaf ≡ word mem (vertexAt (countsIn mem) x + 0) = isLeaf ∙ isShown ∙ ap (λ (c : Counts). word mem (vertexAt c x + 0)) isCounts in
+    let size-is : size ≡ rowsIn mem (word mem (vertexAt (countsIn mem) x + 0)) = isSize ∙ ap (rowsIn mem) leaf-is in
+    let first-is : first ≡ partWord mem (word mem (vertexAt (countsIn mem) x + 0)) 2 = isFirst ∙ isStart ∙ ap (λ (q : ℕ). partWord mem q 2) leaf-is in
+    (λ i. leb (k * size-is i) (64 * (isActive ∙ (λ j. activeRows mem (first-is j) (size-is j) 0)) i))
 
 pub bound-root : (mem : List ℕ) (part : ℕ) (dx : List ℕ) → part ≡ 0 → BoundOutside mem part dx FAR
 bound-root mem part dx root = record { root = λ e. refl; other = λ real. absurd (real root) }

@@ -2,11 +2,11 @@
 -- lies outside the part climbed to.
 use mathlib.Core.Path.{_≡_}
 use mathlib.Core.Logic.{_⊎_, _≢_}
-use mathlib.Core.Bool.{Bool, true, false, _&&_}
+use mathlib.Core.Bool.{Bool, true, false}
 use mathlib.Core.List.{List, _++_}
 use Prim.Native.Nat.{ℕ, _+_, _*_, _≤_, _<_}
 use lib.ListN.{length, set, take, drop}
-use lib.Dec.{eqb, ltb}
+use lib.Dec.{eqb, leb}
 use Rattle.words.specs.Limits.{FAR}
 use Rattle.words.specs.Lists.{word, keep, gather}
 use Rattle.roads.specs.Map.{Map, partCount}
@@ -22,7 +22,7 @@ use Rattle.best_list.specs.Best.{offeredAll}
 use Rattle.van_offers.specs.Offers.{leafOffers}
 use Rattle.van_offers.specs.Genuine.{Genuine, listIn}
 use Rattle.far_sums.specs.Least.{Least}
-use Rattle.part_bounds.specs.Bounds.{partWord, rowsIn, Relaxed, outOf, farCount}
+use Rattle.part_bounds.specs.Bounds.{partWord, rowsIn, activeRows, Relaxed, outOf, farCount}
 use Rattle.question.specs.declared.Search.{Search}
 
 -- The functions of the search, on any words.
@@ -109,10 +109,10 @@ pub record Fresh (dx keys marks waits : List ℕ) : Type 0 where
   pub no-mark : (q : ℕ) → word marks q ≡ 0
   pub waits-length : length waits ≡ 512
 
--- few vans are asked for, and the row of x in its leaf shows one
+-- where vans stand as in the leaf of x, k active vertices are among 64
 unfoldable pub closeBy : List ℕ → ℕ → ℕ → Bool
 closeBy mem x k =
-    ltb k 4 && ltb (word mem (partWord mem (word mem (vertexAt (countsIn mem) x)) 2 + 4 * word mem (vertexAt (countsIn mem) x + 1) + 1)) FAR
+    leb (k * rowsIn mem (word mem (vertexAt (countsIn mem) x + 0))) (64 * activeRows mem (partWord mem (word mem (vertexAt (countsIn mem) x + 0)) 2) (rowsIn mem (word mem (vertexAt (countsIn mem) x + 0))) 0)
 
 -- the words of a list, and then those of the answer that it leaves
 unfoldable pub written : List Listed → List ℕ → List ℕ

@@ -5,6 +5,7 @@ use cells::wide;
 use cells::word;
 use far_sums::FAR;
 use near_vans::near_vans;
+use part_bounds::active_rows;
 use part_bounds::lower;
 use part_bounds::nearest_waiting;
 use part_bounds::open_up;
@@ -29,9 +30,6 @@ ghost use Rattle.fleet.specs.Question.{nearest};
 ghost use Rattle.part_bounds.specs.Bounds.{farCount};
 ghost use Rattle.van_offers.specs.Genuine.{Genuine, listIn};
 ghost use Rattle.question.specs.Kept.{LeafTaken, BoundOutside, Searching, Shrunk, GoesOn, Fresh, closeBy, written};
-
-// So many vans are no longer few.
-const FEW: usize = 4;
 
 // A search between two turns: the best so far, the part climbed to, the bound of what lies outside it, and how many parts wait.
 pub struct Search {
@@ -251,19 +249,16 @@ fn search_at(
     search_on(mem, k, dx, keys, marks, waits, s)
 }
 
-// A search around x is likely to be short: few vans are asked for, and x's leaf has an active vertex from which x is reached.
+// A search around x is likely to be short: where vans stand as in the leaf of x, k active vertices are among some 64.
 fn close_by(mem: &[u32], x: u32, k: usize) -> bool
+    requires { ⌜ k ≤ 32 ⌝ }
     ensures { λ r. ⌜ r ≡ closeBy (now (mem .entry)) x k ⌝ }
 {
-    let counts = counts_in(mem);
-    let leaf = wide(vertex_word(mem, counts, x, 0));
-    let place = wide(vertex_word(mem, counts, x, 1));
+    let leaf = wide(vertex_word(mem, counts_in(mem), x, 0));
+    let size = rows_in(mem, leaf);
     let first = wide(part_word(mem, leaf, 2));
-    let near = word(mem, first + 4 * place + 1);
-    if FEW <= k {
-        return false;
-    }
-    near < FAR
+    let active = active_rows(mem, first, size);
+    k * size <= 64 * active
 }
 
 // The first k of all free vans that can reach x, in order of distance and then van number.

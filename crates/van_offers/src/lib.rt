@@ -84,7 +84,9 @@ pub fn offer_leaf(
         let near = word(dx, wide(v));
         if near < FAR {
             let link = vertex_word(mem, counts, v, 4);
-            list = offer_vans(mem, counts, link, near, list, k);
+            if link != 0 {
+                list = offer_vans(mem, counts, link, near, list, k);
+            }
         }
         i += 1;
     }

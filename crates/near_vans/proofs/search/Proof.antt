@@ -17,7 +17,7 @@ abbrev Inv-loop : tie.InvT-loop
 Inv-loop mem x k at₀ labels₀ vertices₀ counts best₀ n₀ turns₀ at labels vertices best n turns = (best .len ≤ k) × (n ≤ 128) × Keeps mem x k at labels vertices n best
 
 abbrev μ-loop : tie.MeasureT-loop
-μ-loop mem x k at₀ labels₀ vertices₀ counts best₀ n₀ turns₀ at labels vertices best n turns = 64 - turns
+μ-loop mem x k at₀ labels₀ vertices₀ counts best₀ n₀ turns₀ at labels vertices best n turns = 128 - turns
 
 loop-holds : tie.Need-loop-holds Inv-loop μ-loop
 loop-holds c = (omega arith, omega arith, begun _ _ _ (c .before .before .before .before .before .before .before .pre .0) (c .empty .result) (c .before .before .before .before .before .before .before .pre .2) (c .before .start .ensures) (c .empty .ensures))

@@ -7,7 +7,7 @@ use native.Mathlib.Nat.{sub-zero}
 use native.Mathlib.Omega.{arith}
 use Rattle.best_list.specs.Best.{entries, offeredAll}
 use Rattle.van_offers.specs.Offers.{stampIn, leafOffers}
-use Rattle.van_offers.proofs.Steps.{leaf-skips, leaf-offers, leaf-done}
+use Rattle.van_offers.proofs.Steps.{vans-end, leaf-skips, leaf-offers, leaf-done}
 use borrow.Author.Needs.{needs}
 use Rattle.van_offers.proofs.offer_leaf.Statement.{statement}
 use Rattle.van_offers.proofs.offer_leaf.Tie as tie
@@ -23,15 +23,18 @@ loop-holds c = (omega arith, rw sub-zero)
 
 loop-again : tie.Need-loop-again Inv-loop μ-loop
 loop-again c =
+    let l = c .before .before .before .before .before .loop in
+    let more = c .before .before .before .before .loop-test .taken in
+    let owner = ap (λ (w : ℕ). w % 65536) (c .before .before .before .word .ensures) in
     elim (c .if1 .came) [
-      | inl t ↦ rw (t .3) (
-        t .2 .ensures .0,
-        leaf-offers _ _ _ _ _ _ _ (c .before .before .before .before .loop-test .taken) _ _ (c .before .before .before .before .before .loop .inv .1) (ap (λ (w : ℕ). w % 65536) (c .before .before .before .word .ensures)) (c .before .before .wide .ensures) (c .before .word2 .ensures) (t .0 .taken) (t .1 .ensures) (t .2 .ensures .1),
-      )
-      | inr t ↦ rw (t .1) (
-        c .before .before .before .before .before .loop .inv .0,
-        leaf-skips _ _ _ _ _ _ _ (c .before .before .before .before .loop-test .taken) _ _ (c .before .before .before .before .before .loop .inv .1) (ap (λ (w : ℕ). w % 65536) (c .before .before .before .word .ensures)) (c .before .before .wide .ensures) (c .before .word2 .ensures) (t .0 .left),
-      )
+      | inl t ↦ rw (t .4) (t .3 .ensures .0, leaf-offers _ _ _ _ _ _ _ more _ _ (l .inv .1) owner (c .before .before .wide .ensures) (c .before .word2 .ensures) (t .0 .taken) (t .1 .ensures) (t .3 .ensures .1))
+      | inr rest ↦ elim rest [
+        | inl t ↦ rw (t .3) (
+          l .inv .0,
+          leaf-offers _ _ _ _ _ _ _ more _ _ (l .inv .1) owner (c .before .before .wide .ensures) (c .before .word2 .ensures) (t .0 .taken) (t .1 .ensures) (vans-end _ _ _ _ _ 1024 _ (t .2 .left) refl),
+        )
+        | inr t ↦ rw (t .1) (l .inv .0, leaf-skips _ _ _ _ _ _ _ more _ _ (l .inv .1) owner (c .before .before .wide .ensures) (c .before .word2 .ensures) (t .0 .left))
+      ]
     ]
 
 returns : tie.Need-returns Inv-loop μ-loop
