@@ -1,5 +1,6 @@
 // Distances to the vertex asked at, for the vertices that have a row in a part; and the bounds that they give to parts.
 // `dx` has a distance for each vertex, FAR where none is known yet.
+use cells::more;
 use cells::put;
 use cells::wide;
 use cells::word;
@@ -40,17 +41,6 @@ pub fn row_word(mem: &[u32], first: usize, i: usize, w: usize) -> u32
     ensures { λ r. ⌜ r ≡ word (now (mem .entry)) (first + 4 * i + w) ⌝ }
 {
     word(mem, first + 4 * i + w)
-}
-
-// How long a list is after one more entry was written, which counts if `is` is true: a jump would often go the wrong way.
-fn more(n: usize, is: bool) -> usize
-    requires { ⌜ n < 4294967296 ⌝ }
-    ensures { λ r. ⌜ (r ≡ cond is (n + 1) n) × (r ≤ n + 1) ⌝ }
-{
-    if is {
-        return n + 1;
-    }
-    n
 }
 
 // How many of a leaf's rows show their own vertex: those of its active vertices.

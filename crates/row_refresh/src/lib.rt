@@ -1,5 +1,6 @@
 // The nearest rows kept exact when one vertex becomes active or inactive. Every function says what it does to any list of words, so forged
 // words harm nothing; what that means of the words of a map and a fleet is proved about these definitions, in crate row_memory.
+use cells::more;
 use cells::put;
 use cells::wide;
 use cells::word;
@@ -163,18 +164,6 @@ fn meet_all(
         k += 1;
     }
     any
-}
-
-// How long a list is after one more entry was written, which counts if `is` is true. Lists are written so because which entries count is not foreseen, and a
-// jump would often go the wrong way.
-fn more(n: usize, is: bool) -> usize
-    requires { ⌜ n < 4294967296 ⌝ }
-    ensures { λ r. ⌜ (r ≡ cond is (n + 1) n) × (r ≤ n + 1) ⌝ }
-{
-    if is {
-        return n + 1;
-    }
-    n
 }
 
 // Whether a row shows v, or, with `below`, its source does.

@@ -1,9 +1,9 @@
--- `row_refresh::more` is one more, where the entry counts.
+-- `more` is one more, where the entry counts.
 use mathlib.Core.Path.{refl}
 use borrow.Author.Needs.{needs}
 use native.Mathlib.Omega.{arith}
-use Rattle.row_refresh.proofs.more.Statement.{statement}
-use Rattle.row_refresh.proofs.more.Tie as tie
+use Rattle.cells.proofs.more.Statement.{statement}
+use Rattle.cells.proofs.more.Tie as tie
 
 returns : tie.Need-returns
 returns c = (rw (c .if1 .taken) refl, omega arith)
