@@ -137,7 +137,7 @@ fn machine() -> String {
     let model = processors
         .lines()
         .find_map(|line| line.strip_prefix("model name"))
-        .map_or("an unknown processor", |rest| {
+        .map_or(std::env::consts::ARCH, |rest| {
             rest.trim_start_matches([' ', '\t', ':'])
         });
     let count = std::thread::available_parallelism().map_or(1, |n| n.get());
