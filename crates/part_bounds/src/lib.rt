@@ -76,13 +76,13 @@ fn is_asked(mem: &[u32], first: usize, i: usize, all: bool, dx: &[u32]) -> bool
     shown < FAR
 }
 
-// Two lists of a part's rows: those whose vertices have a distance, and those whose distance is asked for.
+// How many of a part's rows are listed as those whose vertices have a distance, and as those whose distance is asked for.
 pub struct Listed {
     pub known: usize,
     pub asked: usize,
 }
 
-// Lists the places of the first `size` rows, and the distances of the known ones.
+// Lists the rows of both kinds among the first `size`, by their numbers, and the distances of the known ones.
 fn look(
     mem: &[u32],
     first: usize,

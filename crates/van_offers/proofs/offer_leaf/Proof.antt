@@ -1,6 +1,6 @@
 -- `offer_leaf` offers what each row's vertex offers, one row after the other.
 -- Assumes nothing.
-use mathlib.Core.Path.{_≡_, ap}
+use mathlib.Core.Path.{_≡_, refl, ap}
 use mathlib.Core.Logic.{inl, inr}
 use Prim.Native.Nat.{ℕ, _-_, _%_, _≤_}
 use native.Mathlib.Nat.{sub-zero}
