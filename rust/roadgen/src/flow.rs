@@ -12,8 +12,8 @@ pub fn side(neighbours: &[Vec<usize>], from: &[usize], to: &[usize]) -> Vec<bool
     let mut ends = Vec::new();
     let mut room: Vec<u8> = Vec::new();
     let mut arcs = vec![Vec::new(); n];
-    for v in 0..n {
-        for &u in neighbours[v].iter().filter(|&&u| v < u) {
+    for (v, near) in neighbours.iter().enumerate() {
+        for &u in near.iter().filter(|&&u| v < u) {
             for (a, b) in [(v, u), (u, v)] {
                 arcs[a].push(ends.len());
                 ends.push(b);
