@@ -22,8 +22,8 @@ use Rattle.best_list.specs.Best.{offeredAll}
 use Rattle.best_list.proofs.Offers.{offered-more}
 use Rattle.van_offers.specs.Offers.{vanOffers}
 use Rattle.van_offers.specs.Genuine.{Genuine}
-use Rattle.van_offers.proofs.Heading.{Heads, offers-say, offers-have, offers-distinct}
-use Rattle.van_offers.proofs.Comers.{comers, Comer, comer-says, comer-has, comer-near}
+use Rattle.van_offers.proofs.Heading.{Comer, offers-say, offers-have, offers-distinct}
+use Rattle.van_offers.proofs.Comers.{comers, comer-says, comer-has, comer-near}
 use Rattle.near_vans.specs.Around.{vanHead, isOffered}
 
 module _ {m : Map} {s : State} {mem : List ℕ} (g : Genuine m s mem) (x : ℕ) where
@@ -37,15 +37,9 @@ module _ {m : Map} {s : State} {mem : List ℕ} (g : Genuine m s mem) (x : ℕ) 
     offers : List Listed
     offers = vanOffers mem (countsIn mem) near 1024 (word mem (vertexAt (countsIn mem) v + 4))
 
-    comer-of : (e : Listed) → Heads g x v near reaches near-is e → (c : Comer g x e) × (headOf m (c .van) ≡ v)
-    comer-of e h = (
-      record { place = h .place; van = h .van; there = h .there; free = h .free; reaches = omega (arith, reaches, near-is, ap (λ (u : ℕ). dist m u x) (h .heads)); same = h .same },
-      h .heads,
-    )
-
     offers-come : (e : Listed) → List·Memᴰ e offers → (c : Comer g x e) × (headOf m (c .van) ≡ v)
     unfolding offers
-    offers-come e h = comer-of e (offers-say g x v near reaches near-is hv e h)
+    offers-come e h = offers-say g x v near reaches near-is hv e h
 
     comes-offered : (e : Listed) (c : Comer g x e) → headOf m (c .van) ≡ v → List·Memᴰ e offers
     unfolding offers

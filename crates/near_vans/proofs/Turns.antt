@@ -31,8 +31,8 @@ use Rattle.best_list.specs.Best.{limitOf, offeredAll}
 use Rattle.van_offers.specs.Offers.{vanOffers}
 use Rattle.van_offers.specs.Genuine.{Genuine}
 use Rattle.van_offers.proofs.Shown.{vertex-read}
-use Rattle.van_offers.proofs.Heading.{head-below}
-use Rattle.van_offers.proofs.Comers.{Comer, comer-far, settled}
+use Rattle.van_offers.proofs.Heading.{Comer, head-below}
+use Rattle.van_offers.proofs.Comers.{comer-far, settled}
 use Rattle.near_vans.specs.Around.{Around, vanHead, isOffered, Searching, Fresh, Started, Least, Taken, Opened, SameTaken, MetAll}
 use Rattle.near_vans.proofs.Exact.{nearer-taken, least-exact}
 use Rattle.near_vans.proofs.Taking.{now-taken, not-taken, others-as-before, taken-around}

@@ -22,7 +22,7 @@ use Rattle.image.specs.Places.{verticesAt}
 use Rattle.image.specs.Image.{firstRoadFrom, endsAt}
 use Rattle.records.proofs.Written.{written-up}
 use Rattle.opening_fresh.specs.Fresh.{vertexWords, freshVertex}
-use Rattle.opening_vertices.specs.Vertices.{Skipped, Ready, VerticesStand}
+use Rattle.opening_vertices.specs.Vertices.{Passed, Skipped, Ready, VerticesStand}
 
 -- the two halves of a vertex's record
 pub vertex-stored : (mem p q : List ℕ) (at a b c d : ℕ) → p ≡ sets mem at (a ∷ b ∷ c ∷ d ∷ []) → q ≡ sets p (at + 4) (0 ∷ NONE ∷ FAR ∷ 0 ∷ []) → q ≡ sets mem at (vertexWords a b c d)
@@ -34,34 +34,28 @@ pub place-taken : (places places′ : List ℕ) (leaf at place next : ℕ) → a
     → (place ≡ word places leaf) × (places′ ≡ set places leaf ((place + 1) % 2 ^ 32))
 place-taken places places′ leaf at place next a p n e = (p ∙ ap (word places) a, e ∙ ap₂ (λ (i x : ℕ). set places i x) a n)
 
--- the roads passed so far start below v
-pub record Passing (body : List ℕ) (roads first v r : ℕ) : Type 0 where
-  pub from : first ≤ r
-  pub most : first ≤ roads → r ≤ roads
-  pub passed : (i : ℕ) → first ≤ i → i < r → roadShown body i .from < v
-
 module _ (body : List ℕ) (roads first v : ℕ) where
-  pub passing-none : Passing body roads first v first
-  passing-none = record { from = omega arith; most = λ h. h; passed = λ i low high. absurd (omega arith) }
+  pub passing-none : Passed body roads first v first
+  passing-none = record { from = omega arith; most = λ h. h; below = λ i low high. absurd (omega arith) }
 
   module _ (r number from : ℕ) (so : number ≡ r) (is : from ≡ field body (8 * number) 2) where
     from-is : from ≡ roadShown body r .from
     unfolding roadShown
     from-is = is ∙ ap (λ (k : ℕ). field body (8 * k) 2) so
 
-    pub passing-more : Passing body roads first v r → r < roads → from < v → Passing body roads first v (r + 1)
+    pub passing-more : Passed body roads first v r → r < roads → from < v → Passed body roads first v (r + 1)
     passing-more p h low =
         record {
           from = omega (arith, p .from);
           most = λ k. omega arith;
-          passed = λ i lo hi. elim (ℕ-discrete i r) [ yes same ↦ subst (λ (k : ℕ). roadShown body k .from < v) (sym same) (omega (arith, from-is)) | no other ↦ p .passed i lo (omega (arith, other)) ];
+          below = λ i lo hi. elim (ℕ-discrete i r) [ yes same ↦ subst (λ (k : ℕ). roadShown body k .from < v) (sym same) (omega (arith, from-is)) | no other ↦ p .below i lo (omega (arith, other)) ];
         }
 
-    pub passing-stop : Passing body roads first v r → v ≤ from → Skipped body roads first v r
-    passing-stop p h = record { from = p .from; most = p .most; passed = p .passed; stops = λ k. omega (arith, from-is) }
+    pub passing-stop : Passed body roads first v r → v ≤ from → Skipped body roads first v r
+    passing-stop p h = record { passed = p; stops = λ k. omega (arith, from-is) }
 
-  pub passing-end : (r : ℕ) → Passing body roads first v r → roads ≤ r → Skipped body roads first v r
-  passing-end r p h = record { from = p .from; most = p .most; passed = p .passed; stops = λ k. absurd (omega arith) }
+  pub passing-end : (r : ℕ) → Passed body roads first v r → roads ≤ r → Skipped body roads first v r
+  passing-end r p h = record { passed = p; stops = λ k. absurd (omega arith) }
 
 -- which vertices stand in a part, if it is a leaf
 abbrev pub standsIn : Map → ℕ → ℕ → Bool
@@ -103,10 +97,10 @@ module _ (m : Map) (leaves body : List ℕ) (roads vertices base : ℕ) (ins pla
     first-road = sym (keep-first (λ (r : Road). ltb (r .from) v) noRoad (m .roads) road′ reached (λ i k. lt-ltb (roadAt m i .from) v (below i k)) (λ i low k. le-ltb (roadAt m i .from) v (above i low k)))
       where
         reached : road′ ≤ roadCount m
-        reached = omega (arith, skipped .most (omega (arith, taken .reached, ready .road-count)), ready .road-count)
+        reached = omega (arith, skipped .passed .most (omega (arith, taken .reached, ready .road-count)), ready .road-count)
 
         below : (i : ℕ) → i < road′ → roadAt m i .from < v
-        below i k = elim (decLt i road) [ yes old ↦ taken .passed i old | no new ↦ subst (λ (r : Road). r .from < v) (ready .roads-shown i (omega (arith, reached))) (skipped .passed i (omega (arith, new)) k) ]
+        below i k = elim (decLt i road) [ yes old ↦ taken .passed i old | no new ↦ subst (λ (r : Road). r .from < v) (ready .roads-shown i (omega (arith, reached))) (skipped .passed .below i (omega (arith, new)) k) ]
 
         above : (i : ℕ) → road′ ≤ i → i < roadCount m → v ≤ roadAt m i .from
         above i low k =
@@ -160,14 +154,14 @@ module _ (m : Map) (leaves body : List ℕ) (roads vertices base : ℕ) (ins pla
     taken-more =
         record {
           place = λ q k. places-now q k ∙ ap (rank (standsIn m q)) (let one : suc v ≡ v + 1 = omega arith in one);
-          reached = omega (arith, skipped .most (omega (arith, taken .reached, ready .road-count)), ready .road-count);
+          reached = omega (arith, skipped .passed .most (omega (arith, taken .reached, ready .road-count)), ready .road-count);
           passed = λ i k. elim (decLt i road) [ yes old ↦ omega (arith, taken .passed i old) | no new ↦ again i (omega (arith, new)) k ];
         }
       where
         again : (i : ℕ) → road ≤ i → i < road′ → roadAt m i .from < v + 1
         again i low k =
-            let most = skipped .most (omega (arith, taken .reached, ready .road-count)) in
-            let less : roadAt m i .from < v = subst (λ (r : Road). r .from < v) (ready .roads-shown i (omega (arith, most, ready .road-count))) (skipped .passed i low k) in
+            let most = skipped .passed .most (omega (arith, taken .reached, ready .road-count)) in
+            let less : roadAt m i .from < v = subst (λ (r : Road). r .from < v) (ready .roads-shown i (omega (arith, most, ready .road-count))) (skipped .passed .below i low k) in
             omega (arith, less)
 
     -- vertex v written

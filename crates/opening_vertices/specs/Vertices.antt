@@ -14,11 +14,15 @@ use Rattle.map_shown.specs.Shown.{ShowsLeaves, ShowsRoads}
 use Rattle.records.specs.Written.{Written}
 use Rattle.opening_fresh.specs.Fresh.{freshVertex}
 
--- r is the first road from `first` on that does not start below v
-pub record Skipped (body : List ℕ) (roads first v r : ℕ) : Type 0 where
+-- the roads from `first` on and before r start below v
+pub record Passed (body : List ℕ) (roads first v r : ℕ) : Type 0 where
   pub from : first ≤ r
   pub most : first ≤ roads → r ≤ roads
-  pub passed : (i : ℕ) → first ≤ i → i < r → roadShown body i .from < v
+  pub below : (i : ℕ) → first ≤ i → i < r → roadShown body i .from < v
+
+-- and r is the first that does not
+pub record Skipped (body : List ℕ) (roads first v r : ℕ) : Type 0 where
+  pub passed : Passed body roads first v r
   pub stops : r < roads → v ≤ roadShown body r .from
 
 -- what is lent shows the vertices of m and has room for them, and no place is taken yet

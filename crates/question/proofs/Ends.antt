@@ -38,8 +38,8 @@ use Rattle.far_sums.specs.Least.{Least}
 use Rattle.part_bounds.specs.Bounds.{partWord, rowsIn, lowered, Relaxed, keyAt}
 use Rattle.part_bounds.proofs.Lowering.{lowered-length, lowered-found}
 use Rattle.van_offers.specs.Genuine.{Genuine}
-use Rattle.van_offers.proofs.Heading.{head-below, head-active}
-use Rattle.van_offers.proofs.Comers.{comers, Comer, comer-near, settled}
+use Rattle.van_offers.proofs.Heading.{Comer, head-below, head-active}
+use Rattle.van_offers.proofs.Comers.{comers, comer-near, settled}
 use Rattle.question.specs.Kept.{BoundOutside, Coming, Covered, Waits, Searching, vanLeaf, isOffered}
 use Rattle.question.proofs.Shown.{active-shown}
 use Rattle.question.proofs.Exact.{still-honest, exact-out, known-out, exact-own, known-own}

@@ -34,8 +34,8 @@ use Rattle.best_list.proofs.Offers.{bestOf, offered-more}
 use Rattle.van_offers.specs.Offers.{vanOffers, rowOwner, vertexOffers, leafOffers}
 use Rattle.part_bounds.specs.Bounds.{partWord, rowsIn}
 use Rattle.van_offers.specs.Genuine.{Genuine}
-use Rattle.van_offers.proofs.Heading.{offers-say, offers-have, offers-distinct, head-below, head-active, idle-link}
-use Rattle.van_offers.proofs.Comers.{comers, Comer, comer-says, comer-has, comer-near}
+use Rattle.van_offers.proofs.Heading.{Comer, offers-say, offers-have, offers-distinct, head-below, head-active, idle-link}
+use Rattle.van_offers.proofs.Comers.{comers, comer-says, comer-has, comer-near}
 use Rattle.question.specs.Kept.{vanLeaf, isOffered}
 use Rattle.question.proofs.Shown.{rows-read, owner-read, row-below, row-in, place-read}
 
@@ -123,14 +123,8 @@ module _ {m : Map} {s : State} {mem : List ℕ} (g : Genuine m s mem) (x : ℕ) 
           ⊎-elim
           (λ nobody. absurd (List·Memᴰ·not-nil (subst (List·Memᴰ e) nobody h)))
           (λ (reaches, is).
-          let c = offers-say g x v (dist m v x) reaches refl (row-below g q hq i hi) e (subst (List·Memᴰ e) is h) in
-          record {
-            row = i;
-            from = omega arith;
-            below = omega arith;
-            comer = record { place = c .place; van = c .van; there = c .there; free = c .free; reaches = omega (arith, reaches, ap (λ (k : ℕ). dist m k x) (c .heads)); same = c .same };
-            heads = c .heads;
-          })
+          let (c, heads) = offers-say g x v (dist m v x) reaches refl (row-below g q hq i hi) e (subst (List·Memᴰ e) is h) in
+          record { row = i; from = omega arith; below = omega arith; comer = c; heads = heads })
           cases
 
       row-has : (e : Listed) (c : Comer g x e) → headOf m (c .van) ≡ v → List·Memᴰ e rowOffers

@@ -21,22 +21,13 @@ use Rattle.fleet.proofs.Coming.{entry, coming-says, coming-has, coming-distinct
 use Rattle.best_list.specs.Best.{limitOf}
 use Rattle.best_list.proofs.Offers.{ends}
 use Rattle.van_offers.specs.Genuine.{Genuine}
-use Rattle.van_offers.proofs.Heading.{comes-near}
+use Rattle.van_offers.proofs.Heading.{Comer, comes-near}
 
 module _ {m : Map} {s : State} {mem : List ℕ} (g : Genuine m s mem) (x : ℕ) where
   abbrev pub comers : List Listed
   comers = comingFrom m x 0 (s .vans)
 
-  -- the van of an entry of those that can come
-  pub record Comer (l : Listed) : Type 0 where
-    pub place : ℕ
-    pub van : Van
-    pub there : slotOf s place ≡ present van
-    pub free : van .holder ≡ 0
-    pub reaches : dist m (headOf m van) x < FAR
-    pub same : l ≡ entry m x place van
-
-  pub comer-says : (l : Listed) → List·Memᴰ l comers → Comer l
+  pub comer-says : (l : Listed) → List·Memᴰ l comers → Comer g x l
   unfolding canCome
   comer-says l h =
       let c = coming-says m x 0 (s .vans) l h in
@@ -50,7 +41,7 @@ module _ {m : Map} {s : State} {mem : List ℕ} (g : Genuine m s mem) (x : ℕ) 
         same = c .same ∙ ap (λ (i : ℕ). entry m x i (c .van)) (zero-add (c .place));
       }
 
-  pub comer-has : (l : Listed) → Comer l → List·Memᴰ l comers
+  pub comer-has : (l : Listed) → Comer g x l → List·Memᴰ l comers
   unfolding canCome
   comer-has l c =
       coming-has m x 0 (s .vans) l
@@ -66,13 +57,13 @@ module _ {m : Map} {s : State} {mem : List ℕ} (g : Genuine m s mem) (x : ℕ) 
   comer-near l h = let c = comer-says l h in omega (arith, ap (λ (a : Listed). a .distance) (c .same), comes-near g x (c .place) (c .van) (c .there) (c .reaches))
 
   -- it is no nearer than the vertex that it heads for
-  pub comer-far : (l : Listed) (c : Comer l) → dist m (headOf m (c .van)) x ≤ l .distance
+  pub comer-far : (l : Listed) (c : Comer g x l) → dist m (headOf m (c .van)) x ≤ l .distance
   unfolding distanceOf
   comer-far l c = omega (arith, ap (λ (a : Listed). a .distance) (c .same))
 
   -- A list of the best of those that were offered is the answer where every other is farther than its limit.
   pub settled : (k : ℕ) → 1 ≤ k → (offered : Listed → Bool) {found : List Listed} → found ≡ take k (sorted (keep offered comers))
-      → ((l : Listed) → Comer l → (offered l ≡ true) ⊎ (limitOf k found < l .distance)) → found ≡ nearest m s x k
+      → ((l : Listed) → Comer g x l → (offered l ≡ true) ⊎ (limitOf k found < l .distance)) → found ≡ nearest m s x k
   unfolding nearest
   settled k some offered list rest =
       list ∙ ends k some comers (coming-distinct m x 0 (s .vans)) comer-near offered (λ l h. ⊎-elim inl (λ far. inr (omega (arith, far, ap (limitOf k) list))) (rest l (comer-says l h)))

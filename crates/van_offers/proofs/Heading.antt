@@ -108,6 +108,15 @@ module _ {m : Map} {s : State} {mem : List ℕ} (g : Genuine m s mem) where
       let light = g .sound .road (roadAt m (van .road)) (entry-in (m .roads) (van .road) noRoad (good .road)) .weight in
       omega (arith, good .offset, light, sound-dist m (g .sound) (headOf m van) x (head-below i van there) .most (λ far. omega (arith, far, reaches)))
 
+  -- the van of an entry of those that can come to x
+  pub record Comer (x : ℕ) (l : Listed) : Type 0 where
+    pub place : ℕ
+    pub van : Van
+    pub there : slotOf s place ≡ present van
+    pub free : van .holder ≡ 0
+    pub reaches : dist m (headOf m van) x < FAR
+    pub same : l ≡ entry m x place van
+
   -- Those that head for v, at distance `near` from x.
   module _ (x v near : ℕ) (reaches : near < FAR) (is-near : near ≡ dist m v x) where
     -- the entry that slot i gives
@@ -170,14 +179,9 @@ module _ {m : Map} {s : State} {mem : List ℕ} (g : Genuine m s mem) where
         by true here later same = take-one n i (omega arith) here ∙ ap (λ (l : List Listed). given i ∷ l) later
         by false other later same = skip (suc n) i (omega arith) other ∙ same
 
-    -- a free van that heads for v, by its entry
-    pub record Heads (e : Listed) : Type 0 where
-      pub place : ℕ
-      pub van : Van
-      pub there : slotOf s place ≡ present van
-      pub free : van .holder ≡ 0
-      pub heads : headOf m van ≡ v
-      pub same : e ≡ entry m x place van
+    -- a van that can come, and heads for v
+    abbrev Heads : Listed → Type 0
+    Heads e = (c : Comer x e) × (headOf m (c .van) ≡ v)
 
     heading-says : (r i : ℕ) (e : Listed) → List·Memᴰ e (heading r i) → Heads e × (i ≤ e .van)
     unfolding heading
@@ -189,7 +193,13 @@ module _ {m : Map} {s : State} {mem : List ℕ} (g : Genuine m s mem) where
             let (van, there, free, heads) = heads-says m v (slotOf s i) here in
             let is : given i ≡ entry m x i van = given-is i van there free heads in
             ⊎-elim
-            (λ same. (record { place = i; van = van; there = there; free = free; heads = heads; same = same ∙ is }, omega (arith, ap (λ (a : Listed). a .van) (same ∙ is))))
+            (λ same. (
+              (
+                record { place = i; van = van; there = there; free = free; reaches = omega (arith, reaches, is-near, ap (λ (u : ℕ). dist m u x) heads); same = same ∙ is },
+                heads,
+              ),
+              omega (arith, ap (λ (a : Listed). a .van) (same ∙ is)),
+            ))
             later
             (List·Memᴰ·cases-cons h)
         by false other h later = later h
@@ -227,7 +237,7 @@ module _ {m : Map} {s : State} {mem : List ℕ} (g : Genuine m s mem) where
     offers-are hv = ap (vanOffers mem (countsIn mem) near 1024) (vertex-read g v 4 hv (omega arith)) ∙ chain-heading 1024 1024 0 refl (omega arith)
 
     module _ (hv : v < m .vertices) where
-      pub offers-say : (e : Listed) → List·Memᴰ e (vanOffers mem (countsIn mem) near 1024 (word mem (vertexAt (countsIn mem) v + 4))) → Heads e
+      pub offers-say : (e : Listed) → List·Memᴰ e (vanOffers mem (countsIn mem) near 1024 (word mem (vertexAt (countsIn mem) v + 4))) → (c : Comer x e) × (headOf m (c .van) ≡ v)
       unfolding offers
       offers-say e h = heading-says 1024 0 e (subst (List·Memᴰ e) (offers-are hv) h) .0
 

@@ -2,12 +2,13 @@
 -- Assumes nothing.
 use borrow.Author.Needs.{needs}
 use Prim.Native.Nat.{_-_}
-use Rattle.opening_vertices.proofs.Step.{Passing, passing-none, passing-more, passing-stop, passing-end}
+use Rattle.opening_vertices.specs.Vertices.{Passed}
+use Rattle.opening_vertices.proofs.Step.{passing-none, passing-more, passing-stop, passing-end}
 use Rattle.opening_vertices.proofs.skip.Statement.{statement}
 use Rattle.opening_vertices.proofs.skip.Tie as tie
 
 abbrev Inv-loop : tie.InvT-loop
-Inv-loop body roads first v r₀ r = Passing body roads first v r
+Inv-loop body roads first v r₀ r = Passed body roads first v r
 
 abbrev μ-loop : tie.MeasureT-loop
 μ-loop body roads first v r₀ r = roads - r
