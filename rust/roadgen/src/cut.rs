@@ -85,7 +85,7 @@ impl Cutter<'_> {
 
     /// Equal halves by the line, across one side or the other, that leaves the fewest borders.
     fn equal_halves(&mut self, vertices: &[usize]) -> Halves {
-        let halves = [0, 2 * DIRECTIONS / 4].map(|direction| {
+        let halves = [0, DIRECTIONS / 2].map(|direction| {
             let order = self.along(direction, vertices);
             let (a, b) = order.split_at(order.len() / 2);
             (a.to_vec(), b.to_vec())
