@@ -3,7 +3,7 @@
 use mathlib.Core.Path.{_≡_, refl, sym, ap, subst, _∙_}
 use mathlib.Core.Bool.{Bool, true, false, cond, true≢false}
 use mathlib.Core.List.{List}
-use Prim.Native.Nat.{ℕ, zero, suc, _+_, _-_, _*_, _%_, _≤_, _<_}
+use Prim.Native.Nat.{ℕ, suc, _+_, _*_, _%_, _≤_, _<_}
 use native.Mathlib.Decide.{ℕ-discrete}
 use native.Mathlib.Omega.{arith}
 use lib.ListN.{length, set, length-set}
@@ -11,35 +11,21 @@ use lib.Dec.{ltb, eqb}
 use lib.Seq.{getD-set-same, getD-set-other}
 use Rattle.words.specs.Limits.{FAR}
 use Rattle.words.specs.Lists.{word}
-use Rattle.part_bounds.specs.Bounds.{nearAt, activeRows, Among, Lists, isKnown, isAsked, Looked}
+use Rattle.words.specs.Ranks.{rank}
+use Rattle.words.proofs.Ranks.{rank-kept, rank-left}
+use Rattle.part_bounds.specs.Bounds.{nearAt, showsOwn, Among, Lists, isKnown, isAsked, Looked}
 
 -- one row more is counted
-pub count-more : (mem : List ℕ) (first size i n : ℕ) {near n′ : ℕ} → i < size → near ≡ word mem (first + 4 * i + 1) → n′ ≡ cond (eqb near 0) (n + 1) n
-    → n′ + activeRows mem first (size - (i + 1)) (i + 1) ≡ n + activeRows mem first (size - i) i
-unfolding activeRows
-count-more mem first size i n {near} {n′} h isNear isCount =
-    let fewer : size - i ≡ suc (size - (i + 1)) = omega arith in
-    by (eqb near 0) isCount (ap (λ (k : ℕ). eqb k 0) isNear) ∙ ap (λ (k : ℕ). n + activeRows mem first k i) (sym fewer)
+pub count-more : (mem : List ℕ) (first i n : ℕ) {near n′ : ℕ} → near ≡ word mem (first + 4 * i + 1) → n ≡ rank (showsOwn mem first) i → n′ ≡ cond (eqb near 0) (n + 1) n → n′ ≡ rank (showsOwn mem first) (i + 1)
+unfolding showsOwn
+count-more mem first i n {near} {n′} isNear so isCount = by (eqb near 0) isCount (ap (λ (k : ℕ). eqb k 0) isNear)
   where
-    left : ℕ
-    left = activeRows mem first (size - (i + 1)) (suc i)
+    next : rank (showsOwn mem first) (i + 1) ≡ rank (showsOwn mem first) (suc i)
+    next = ap (rank (showsOwn mem first)) (omega arith)
 
-    same : activeRows mem first (size - (i + 1)) (i + 1) ≡ left
-    same = ap (activeRows mem first (size - (i + 1))) (omega arith)
-
-    by : (b : Bool) → n′ ≡ cond b (n + 1) n → b ≡ eqb (word mem (first + 4 * i + 1)) 0 → n′ + activeRows mem first (size - (i + 1)) (i + 1) ≡ n + activeRows mem first (suc (size - (i + 1))) i
-    by true e is =
-        let here : activeRows mem first (suc (size - (i + 1))) i ≡ suc left = ap (λ (b : Bool). cond b (suc left) left) (sym is) in
-        omega (arith, e, here, same)
-    by false e is =
-        let here : activeRows mem first (suc (size - (i + 1))) i ≡ left = ap (λ (b : Bool). cond b (suc left) left) (sym is) in
-        omega (arith, e, here, same)
-
-pub count-all : (mem : List ℕ) (first size i n : ℕ) → size ≤ i → n + activeRows mem first (size - i) i ≡ activeRows mem first size 0 → n ≡ activeRows mem first size 0
-unfolding activeRows
-count-all mem first size i n h e =
-    let none : size - i ≡ 0 = omega arith in
-    omega (arith, e, ap (λ (k : ℕ). activeRows mem first k i) none)
+    by : (b : Bool) → n′ ≡ cond b (n + 1) n → b ≡ showsOwn mem first i → n′ ≡ rank (showsOwn mem first) (i + 1)
+    by true e is = omega (arith, e, next, rank-kept (showsOwn mem first) i (sym is))
+    by false e is = omega (arith, e, next, rank-left (showsOwn mem first) i (sym is))
 
 pub lists-none : {test : ℕ → Bool} {list : List ℕ} → length list ≡ 128 → Lists test 0 list 0
 lists-none long = record { few = omega arith; long = long; all = λ i h. absurd (omega arith); only = λ t h. absurd (omega arith) }

@@ -30,10 +30,9 @@ belowAt mem first i = word mem (word mem (first + 4 * i + 3) + 1)
 abbrev pub nearAt : List ℕ → ℕ → List ℕ → ℕ → ℕ
 nearAt mem first dx i = word dx (ownerAt mem first i)
 
--- how many of n rows from row i on show a vertex at distance 0
-unfoldable pub activeRows : List ℕ → ℕ → ℕ → ℕ → ℕ
-activeRows mem first zero i = 0
-activeRows mem first (suc n) i = cond (eqb (word mem (first + 4 * i + 1)) 0) (suc (activeRows mem first n (suc i))) (activeRows mem first n (suc i))
+-- row i shows its own vertex: the vertex at distance 0
+unfoldable pub showsOwn : List ℕ → ℕ → ℕ → Bool
+showsOwn mem first i = eqb (word mem (first + 4 * i + 1)) 0
 
 -- the way by the t-th of the known places
 unfoldable pub wayIn : List ℕ → ℕ → List ℕ → List ℕ → ℕ → ℕ

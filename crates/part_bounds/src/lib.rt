@@ -13,8 +13,9 @@ ghost use Prim.Native.Nat.{ℕ, _+_, _*_, _≤_, _<_, _^_, _%_, _/_, min};
 ghost use lib.ListN.{length, set};
 ghost use Rattle.words.specs.Limits.{FAR};
 ghost use Rattle.words.specs.Lists.{word};
+ghost use Rattle.words.specs.Ranks.{rank};
 ghost use Rattle.far_sums.specs.Least.{Least};
-ghost use Rattle.part_bounds.specs.Bounds.{partWord, rowsIn, activeRows, Looked, wayIn, wayOver, lowered, isAsked, AskedRow, Closer, Relaxed, isNew, farCount, keyOf, Among, Spread, OpenedUp, outOf, keyAt};
+ghost use Rattle.part_bounds.specs.Bounds.{partWord, rowsIn, showsOwn, Looked, wayIn, wayOver, lowered, isAsked, AskedRow, Closer, Relaxed, isNew, farCount, keyOf, Among, Spread, OpenedUp, outOf, keyAt};
 
 pub const MOST_ROWS: usize = 128;
 
@@ -46,7 +47,7 @@ pub fn row_word(mem: &[u32], first: usize, i: usize, w: usize) -> u32
 // How many of a leaf's rows show their own vertex: those of its active vertices.
 pub fn active_rows(mem: &[u32], first: usize, size: usize) -> usize
     requires { ⌜ (first < 2 ^ 32) × (size ≤ 128) ⌝ }
-    ensures { λ r. ⌜ (r ≡ activeRows (now (mem .entry)) first size 0) × (r ≤ size) ⌝ }
+    ensures { λ r. ⌜ (r ≡ rank (showsOwn (now (mem .entry)) first) size) × (r ≤ size) ⌝ }
 {
     let mut n = 0;
     let mut i = 0;

@@ -11,6 +11,7 @@ use lib.ListN.{length, set, replicate, length-set, length-replicate, getD-replic
 use lib.Dec.{leb}
 use Rattle.words.specs.Limits.{FAR}
 use Rattle.words.specs.Lists.{word}
+use Rattle.words.specs.Ranks.{rank}
 use Rattle.words.proofs.Lists.{all-same}
 use Rattle.roads.specs.Map.{Map}
 use Rattle.parts.specs.Tree.{isLeaf}
@@ -23,11 +24,11 @@ use Rattle.best_list.specs.declared.BestList.{BestList}
 use Rattle.best_list.specs.Best.{entries, limitOf, offeredAll}
 use Rattle.van_offers.specs.Offers.{stampIn, leafOffers}
 use Rattle.far_sums.specs.Least.{Least}
-use Rattle.part_bounds.specs.Bounds.{partWord, rowsIn, activeRows, lowered, Relaxed, OpenedUp, outOf, keyAt, farCount}
+use Rattle.part_bounds.specs.Bounds.{partWord, rowsIn, showsOwn, lowered, Relaxed, OpenedUp, outOf, keyAt, farCount}
 use Rattle.part_bounds.proofs.Spreading.{far-lowered, far-most}
 use Rattle.question.specs.declared.Search.{Search}
 use Rattle.van_offers.specs.Genuine.{Genuine, listIn}
-use Rattle.question.specs.Kept.{LeafTaken, BoundOutside, Searching, Shrunk, GoesOn, Fresh, closeBy}
+use Rattle.question.specs.Kept.{LeafTaken, BoundOutside, Searching, Shrunk, GoesOn, Fresh, leafIn, closeBy}
 use Rattle.question.proofs.Shown.{parent-read, child-read, leaf-read}
 use Rattle.question.proofs.Turns.{fewer, climbed, part-taken}
 use Rattle.question.proofs.Ends.{FirstLook, leaf-again, leaf-taken, stopped, limit-near, started}
@@ -62,13 +63,13 @@ module _ (mem : List ℕ) (leaf : ℕ) (all : Bool) (dx marks : List ℕ) (best 
 
 -- when a search around x comes first
 pub close-is : (mem : List ℕ) (x k : ℕ) {counts : Counts} {shown leaf size start first active : ℕ} → counts ≡ countsIn mem → shown ≡ word mem (vertexAt counts x + 0) → leaf ≡ shown → size ≡ rowsIn mem leaf
-    → start ≡ partWord mem leaf 2 → first ≡ start → active ≡ activeRows mem first size 0 → leb (k * size) (64 * active) ≡ closeBy mem x k
+    → start ≡ partWord mem leaf 2 → first ≡ start → active ≡ rank (showsOwn mem first) size → leb (k * size) (64 * active) ≡ closeBy mem x k
 unfolding closeBy
 close-is mem x k {leaf = leaf} {size} {first = first} isCounts isShown isLeaf isSize isStart isFirst isActive =
-    let leaf-is : leaf ≡ word mem (vertexAt (countsIn mem) x + 0) = isLeaf ∙ isShown ∙ ap (λ (c : Counts). word mem (vertexAt c x + 0)) isCounts in
-    let size-is : size ≡ rowsIn mem (word mem (vertexAt (countsIn mem) x + 0)) = isSize ∙ ap (rowsIn mem) leaf-is in
-    let first-is : first ≡ partWord mem (word mem (vertexAt (countsIn mem) x + 0)) 2 = isFirst ∙ isStart ∙ ap (λ (q : ℕ). partWord mem q 2) leaf-is in
-    (λ i. leb (k * size-is i) (64 * (isActive ∙ (λ j. activeRows mem (first-is j) (size-is j) 0)) i))
+    let leaf-is : leaf ≡ leafIn mem x = isLeaf ∙ isShown ∙ ap (λ (c : Counts). word mem (vertexAt c x + 0)) isCounts in
+    let size-is : size ≡ rowsIn mem (leafIn mem x) = isSize ∙ ap (rowsIn mem) leaf-is in
+    let first-is : first ≡ partWord mem (leafIn mem x) 2 = isFirst ∙ isStart ∙ ap (λ (q : ℕ). partWord mem q 2) leaf-is in
+    (λ i. leb (k * size-is i) (64 * (isActive ∙ (λ j. rank (showsOwn mem (first-is j)) (size-is j))) i))
 
 pub bound-root : (mem : List ℕ) (part : ℕ) (dx : List ℕ) → part ≡ 0 → BoundOutside mem part dx FAR
 bound-root mem part dx root = record { root = λ e. refl; other = λ real. absurd (real root) }

@@ -9,6 +9,7 @@ use lib.ListN.{length, set, take, drop}
 use lib.Dec.{eqb, leb}
 use Rattle.words.specs.Limits.{FAR}
 use Rattle.words.specs.Lists.{word, keep, gather}
+use Rattle.words.specs.Ranks.{rank}
 use Rattle.roads.specs.Map.{Map, partCount}
 use Rattle.roads.specs.Dist.{dist}
 use Rattle.parts.specs.Tree.{leafOf, holds}
@@ -22,7 +23,7 @@ use Rattle.best_list.specs.Best.{offeredAll}
 use Rattle.van_offers.specs.Offers.{leafOffers}
 use Rattle.van_offers.specs.Genuine.{Genuine, listIn}
 use Rattle.far_sums.specs.Least.{Least}
-use Rattle.part_bounds.specs.Bounds.{partWord, rowsIn, activeRows, Relaxed, outOf, farCount}
+use Rattle.part_bounds.specs.Bounds.{partWord, rowsIn, showsOwn, Relaxed, outOf, farCount}
 use Rattle.question.specs.declared.Search.{Search}
 
 -- The functions of the search, on any words.
@@ -109,10 +110,13 @@ pub record Fresh (dx keys marks waits : List ℕ) : Type 0 where
   pub no-mark : (q : ℕ) → word marks q ≡ 0
   pub waits-length : length waits ≡ 512
 
+-- the leaf of x
+abbrev pub leafIn : List ℕ → ℕ → ℕ
+leafIn mem x = word mem (vertexAt (countsIn mem) x + 0)
+
 -- where vans stand as in the leaf of x, k active vertices are among 64
 unfoldable pub closeBy : List ℕ → ℕ → ℕ → Bool
-closeBy mem x k =
-    leb (k * rowsIn mem (word mem (vertexAt (countsIn mem) x + 0))) (64 * activeRows mem (partWord mem (word mem (vertexAt (countsIn mem) x + 0)) 2) (rowsIn mem (word mem (vertexAt (countsIn mem) x + 0))) 0)
+closeBy mem x k = leb (k * rowsIn mem (leafIn mem x)) (64 * rank (showsOwn mem (partWord mem (leafIn mem x) 2)) (rowsIn mem (leafIn mem x)))
 
 -- the words of a list, and then those of the answer that it leaves
 unfoldable pub written : List Listed → List ℕ → List ℕ
