@@ -1,6 +1,7 @@
 // The nearest free vans where they are near: a search around the caller, vertex by vertex, over the roads that end at each, from the nearest
 // vertex on. It says `done` where its list is the answer, and gives up where that takes too many vertices.
 use best_list::BestList;
+use best_list::limit_of;
 use cells::wide;
 use counts::Counts;
 use far_sums::far_sum;
@@ -17,13 +18,20 @@ ghost use Rattle.words.specs.Lists.{word};
 ghost use Rattle.roads.specs.Map.{Map};
 ghost use Rattle.fleet.specs.State.{State};
 ghost use Rattle.fleet.specs.Question.{nearest};
-ghost use Rattle.van_offers.specs.Genuine.{Genuine, listIn};
+ghost use Rattle.best_list.specs.Best.{InOrder};
+ghost use Rattle.van_offers.specs.Genuine.{Genuine, listOf, listIn};
 ghost use Rattle.near_vans.specs.Around.{Fresh, Started, Least, Taken, WaitsAt, Met, MetAll};
 
 // A search's list, and whether it is the answer.
 pub struct Near {
     pub best: BestList,
     pub done: bool,
+}
+
+// How many vans a search has listed, and whether they are the answer.
+struct Found {
+    len: usize,
+    done: bool,
 }
 
 // At most so many vertices are taken.
@@ -201,47 +209,49 @@ fn search(
     at: &mut [u8; 4096],
     labels: &mut [u32; 128],
     vertices: &mut [u32; 128],
-) -> Near
-    requires { ⌜ (1 ≤ k) × (k ≤ 32) × Fresh (now at) (now labels) (now vertices) ⌝ }
-    ensures { λ r. ⌜ (r .best .len ≤ k) × ((m : Map) (fleet : State) → Genuine m fleet (now (mem .entry)) → x < m .vertices → r .done ≡ true → listIn (now (mem .entry)) (r .best) ≡ nearest m fleet x k) ⌝ }
+    fars: &mut [u32; 32],
+    vans: &mut [u32; 32],
+) -> Found
+    requires { ⌜ (1 ≤ k) × (k ≤ 32) × Fresh (now at) (now labels) (now vertices) × InOrder (now fars) (now vans) 0 ⌝ }
+    ensures { λ r. ⌜ (r .len ≤ k) × ((m : Map) (fleet : State) → Genuine m fleet (now (mem .entry)) → x < m .vertices → r .done ≡ true → listOf (now (mem .entry)) (now (fars .exit)) (now (vans .exit)) (r .len) ≡ nearest m fleet x k) ⌝ }
 {
     let counts = counts_in(mem);
     start(x, at, labels, vertices);
-    let mut best = BestList::empty();
+    let mut len = 0;
     let mut n = 1;
     let mut turns = 0;
     while turns < MOST {
         if n == 0 {
-            return Near {
-                best: best,
+            return Found {
+                len: len,
                 done: true,
             };
         }
         let i = least(labels, n);
         let near = labels[i];
-        if best.limit(k) < near {
-            return Near {
-                best: best,
+        if limit_of(fars, len, k) < near {
+            return Found {
+                len: len,
                 done: true,
             };
         }
         let v = take(i, n, at, labels, vertices);
         let link = vertex_word(mem, counts, v, 4);
         if link != 0 {
-            best = offer_vans(mem, counts, link, near, best, k);
+            len = offer_vans(mem, counts, link, near, fars, vans, len, k);
         }
         let first = vertex_word(mem, counts, v, 3);
         n = meet_all(mem, counts, first, near, n - 1, at, labels, vertices);
         if ROOM < n {
-            return Near {
-                best: best,
+            return Found {
+                len: len,
                 done: false,
             };
         }
         turns += 1;
     }
-    Near {
-        best: best,
+    Found {
+        len: len,
         done: false,
     }
 }
@@ -254,5 +264,25 @@ pub fn near_vans(mem: &[u32], x: u32, k: usize) -> Near
     let mut at = [0u8; 4096];
     let mut labels = [0u32; 128];
     let mut vertices = [0u32; 128];
-    search(mem, x, k, &mut at, &mut labels, &mut vertices)
+    let mut fars = [0u32; 32];
+    let mut vans = [0u32; 32];
+    let found = search(
+        mem,
+        x,
+        k,
+        &mut at,
+        &mut labels,
+        &mut vertices,
+        &mut fars,
+        &mut vans,
+    );
+    let best = BestList {
+        fars: fars,
+        vans: vans,
+        len: found.len,
+    };
+    Near {
+        best: best,
+        done: found.done,
+    }
 }

@@ -4,4 +4,5 @@ pub mod Ways
 pub mod Lowering
 pub mod Relaxing
 pub mod Spreading
+pub mod Opening
 pub mod Keys

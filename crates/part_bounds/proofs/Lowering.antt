@@ -3,11 +3,11 @@
 use mathlib.Core.Path.{_≡_, refl, sym, ap, _∙_}
 use mathlib.Core.Logic.{_⊎_, inl, inr, ⊎-elim}
 use mathlib.Core.List.{List}
-use Prim.Native.Nat.{ℕ, _≤_, _<_}
+use Prim.Native.Nat.{ℕ, _≤_, _<_, min}
 use native.Mathlib.Decide.{decLt, ℕ-discrete}
 use native.Mathlib.Omega.{arith}
 use lib.ListN.{length, set, length-set, List·getD-eq-default}
-use lib.Seq.{getD-set-same, getD-set-other}
+use lib.Seq.{getD-set-same, getD-set-other, set-getD}
 use borrow.Author.Tests.{lt-ltb, le-ltb}
 use Rattle.words.specs.Lists.{word}
 use Rattle.part_bounds.specs.Bounds.{lowered}
@@ -34,6 +34,18 @@ module _ (words : List ℕ) (i x : ℕ) where
 
   pub lower-left : {old : ℕ} → old ≡ word words i → old ≤ x → words ≡ lowered words i x
   lower-left isOld more = sym (lowered-same (omega arith))
+
+  -- the lesser of both, written in any case
+  pub lowered-lesser : {least : ℕ} → least ≡ min x (word words i) → set words i least ≡ lowered words i x
+  lowered-lesser {least} isLeast = by (decLt x (word words i))
+    where
+      by : Dec (x < word words i) → set words i least ≡ lowered words i x
+      by (yes less) =
+          let e : least ≡ x = omega arith in
+          ap (set words i) e ∙ sym (lowered-set less)
+      by (no more) =
+          let e : least ≡ word words i = omega (arith, more) in
+          ap (set words i) e ∙ set-getD words i 0 ∙ sym (lowered-same (omega (arith, more)))
 
   -- a word that is not 0 stands within
   within : x < word words i → i < length words

@@ -1,10 +1,10 @@
 -- Keys given row by row, and how many parts have none.
 -- Assumes nothing.
 use mathlib.Core.Path.{_≡_, refl, sym, ap, subst, _∙_}
-use mathlib.Core.Logic.{_⊎_, inl, inr, ⊎-elim}
-use mathlib.Core.Bool.{Bool, true, false, cond, _&&_}
+use mathlib.Core.Logic.{_⊎_, inl, inr, ⊎-elim, _≢_}
+use mathlib.Core.Bool.{Bool, true, false, true≢false, cond, _&&_}
 use mathlib.Core.List.{List, [], _∷_}
-use Prim.Native.Nat.{ℕ, zero, suc, _+_, _*_, _/_, _≤_, _<_}
+use Prim.Native.Nat.{ℕ, zero, suc, _+_, _*_, _/_, _≤_, _<_, min}
 use native.Mathlib.Decide.{decLe, decLt, ℕ-discrete}
 use native.Mathlib.Omega.{arith}
 use lib.ListN.{length, set, length-set}
@@ -14,8 +14,9 @@ use borrow.Author.Tests.{lt-ltb, le-ltb, le-leb, lt-leb}
 use Rattle.words.specs.Limits.{FAR}
 use Rattle.words.specs.Lists.{word}
 use Rattle.words.proofs.Tests.{both-pass, right-true}
-use Rattle.part_bounds.specs.Bounds.{childAt, nearAt, belowAt, Among, isKnown, isAsked, Looked, lowered, isNew, farCount, keyOf, Spread, OpenedUp}
-use Rattle.part_bounds.proofs.Lowering.{lowered-set, lowered-same, lowered-length, lowered-no-more, lowered-here, lowered-found}
+use Rattle.part_bounds.specs.Bounds.{partWord, rowsIn, childAt, nearAt, belowAt, Among, isKnown, isAsked, AskedRow, Looked, Closer, lowered, isNew, farCount, keyOf, Spread, GivenRow, OpenedUp}
+use Rattle.part_bounds.proofs.Relaxing.{closer-named}
+use Rattle.part_bounds.proofs.Lowering.{lowered-lesser, lowered-set, lowered-same, lowered-length, lowered-no-more, lowered-here, lowered-found}
 
 one-mono : (x y : ℕ) → x ≤ y → cond (leb FAR x) 1 0 ≤ cond (leb FAR y) 1 0
 one-mono x y h = by (decLe FAR x) (decLe FAR y)
@@ -64,24 +65,18 @@ module _ (keys : List ℕ) (part key : ℕ) where
   no-key far = rw (le-ltb key FAR far)
 
 -- What is so after a key was given: the part had none and joins, or nothing joins.
-data KeyGiven (keys : List ℕ) (part key : ℕ) (waits : List ℕ) (count : ℕ) (waits′ : List ℕ) (count′ : ℕ) : Type 0 where
-  joins : key < FAR → FAR ≤ word keys part → waits′ ≡ set waits count part → count′ ≡ count + 1 → KeyGiven keys part key waits count waits′ count′
-  stays : (word keys part < FAR) ⊎ (FAR ≤ key) → waits′ ≡ waits → count′ ≡ count → KeyGiven keys part key waits count waits′ count′
+data KeyGiven (keys : List ℕ) (part key count count′ : ℕ) : Type 0 where
+  joins : key < FAR → FAR ≤ word keys part → count′ ≡ count + 1 → KeyGiven keys part key count count′
+  stays : (word keys part < FAR) ⊎ (FAR ≤ key) → count′ ≡ count → KeyGiven keys part key count count′
 
-key-given : (keys : List ℕ) (part key : ℕ) (waits : List ℕ) (count : ℕ) (waits′ : List ℕ) (count′ : ℕ)
-    → waits′ ≡ cond (isNew keys part key) (set waits count part) waits → count′ ≡ cond (isNew keys part key) (count + 1) count → KeyGiven keys part key waits count waits′ count′
-key-given keys part key waits count waits′ count′ isWaits isCount = by (decLt key FAR) (decLt (word keys part) FAR)
+key-given : (keys : List ℕ) (part key count count′ : ℕ) → count′ ≡ cond (isNew keys part key) (count + 1) count → KeyGiven keys part key count count′
+key-given keys part key count count′ isCount = by (decLt key FAR) (decLt (word keys part) FAR)
   where
-    by : Dec (key < FAR) → Dec (word keys part < FAR) → KeyGiven keys part key waits count waits′ count′
-    by (no far) d =
-        let e = no-key keys part key (omega (arith, far)) in
-        stays (inr (omega (arith, far))) (isWaits ∙ ap (λ (b : Bool). cond b (set waits count part) waits) e) (isCount ∙ ap (λ (b : Bool). cond b (count + 1) count) e)
-    by (yes near) (yes some) =
-        let e = not-new keys part key near some in
-        stays (inl some) (isWaits ∙ ap (λ (b : Bool). cond b (set waits count part) waits) e) (isCount ∙ ap (λ (b : Bool). cond b (count + 1) count) e)
+    by : Dec (key < FAR) → Dec (word keys part < FAR) → KeyGiven keys part key count count′
+    by (no far) d = stays (inr (omega (arith, far))) (isCount ∙ ap (λ (b : Bool). cond b (count + 1) count) (no-key keys part key (omega (arith, far))))
+    by (yes near) (yes some) = stays (inl some) (isCount ∙ ap (λ (b : Bool). cond b (count + 1) count) (not-new keys part key near some))
     by (yes near) (no none) =
-        let e = is-new keys part key near (omega (arith, none)) in
-        joins near (omega (arith, none)) (isWaits ∙ ap (λ (b : Bool). cond b (set waits count part) waits) e) (isCount ∙ ap (λ (b : Bool). cond b (count + 1) count) e)
+        joins near (omega (arith, none)) (isCount ∙ ap (λ (b : Bool). cond b (count + 1) count) (is-new keys part key near (omega (arith, none))))
 
 -- a key made less leaves no more parts without one
 pub far-lowered : (words : List ℕ) (i x : ℕ) → farCount (lowered words i x) ≤ farCount words
@@ -90,6 +85,15 @@ far-lowered words i x = by (decLt x (word words i))
     by : Dec (x < word words i) → farCount (lowered words i x) ≤ farCount words
     by (yes less) = omega (arith, ap farCount (lowered-set words i x less), far-less words i x (omega arith))
     by (no more) = omega (arith, ap farCount (lowered-same words i x (omega (arith, more))))
+
+-- parts without a key, and parts that wait
+pub total-more : (keys : List ℕ) (part key count : ℕ) {keys′ : List ℕ} {count′ : ℕ} → keys′ ≡ lowered keys part key → count′ ≡ cond (isNew keys part key) (count + 1) count
+    → farCount keys′ + count′ ≤ farCount keys + count
+total-more keys part key count {keys′} {count′} isKeys isCount = by (key-given keys part key count count′ isCount)
+  where
+    by : KeyGiven keys part key count count′ → farCount keys′ + count′ ≤ farCount keys + count
+    by (joins near none next-count) = omega (arith, ap farCount (isKeys ∙ lowered-set keys part key (omega arith)), far-new keys part key none near)
+    by (stays why same-count) = omega (arith, ap farCount isKeys, far-lowered keys part key)
 
 module _ {mem : List ℕ} {first : ℕ} {dx : List ℕ} (list : List ℕ) where
   pub spread-none : {keys waits : List ℕ} {n : ℕ} → length waits ≡ 512 → Spread mem first dx (Among list 0) keys waits n keys waits n
@@ -104,17 +108,16 @@ module _ {mem : List ℕ} {first : ℕ} {dx : List ℕ} (list : List ℕ) where
         kept = λ t h. refl;
         new = λ t low high. absurd (omega arith);
         joined = λ q h. inl h;
+        has-key = λ t low high. absurd (omega arith);
+        differ = λ t u low less high. absurd (omega arith);
       }
 
   module _ {u : ℕ} {keys waits : List ℕ} {n : ℕ} {keys₁ waits₁ : List ℕ} {count : ℕ} (s : Spread mem first dx (Among list u) keys waits n keys₁ waits₁ count)
       (few : farCount keys + n ≤ 512) {i key w child : ℕ} {keys₂ waits₂ : List ℕ} {count₂ : ℕ} (isRow : i ≡ word list u) (isKey : key ≡ keyOf mem first dx i) (isWord : w ≡ word mem (first + 4 * i + 2)) (isChild : child ≡ w / 65536)
-      (isKeys : keys₂ ≡ lowered keys₁ child key) (isWaits : waits₂ ≡ cond (isNew keys₁ child key) (set waits₁ count child) waits₁)
+      (isKeys : keys₂ ≡ lowered keys₁ child key) (isWaits : waits₂ ≡ set waits₁ count child)
       (isCount : count₂ ≡ cond (isNew keys₁ child key) (count + 1) count) where
     child-is : child ≡ childAt mem first i
     child-is = isChild ∙ ap (λ (k : ℕ). k / 65536) isWord
-
-    given : KeyGiven keys₁ child key waits₁ count waits₂ count₂
-    given = key-given keys₁ child key waits₁ count waits₂ count₂ isWaits isCount
 
     keys-word : (q : ℕ) → word keys₂ q ≡ word (lowered keys₁ child key) q
     keys-word q = ap (λ (l : List ℕ). word l q) isKeys
@@ -145,50 +148,67 @@ module _ {mem : List ℕ} {first : ℕ} {dx : List ℕ} (list : List ℕ) where
     no-more-next : (q : ℕ) → word keys₂ q ≤ word keys q
     no-more-next q = omega (arith, keys-word q, lowered-no-more keys₁ child key q, s .no-more q)
 
+    waits-length-next : length waits₂ ≡ 512
+    waits-length-next = ap length isWaits ∙ length-set waits₁ count child ∙ s .waits-length
+
+    -- those that waited before
+    old-wait : (t : ℕ) → t < count → word waits₂ t ≡ word waits₁ t
+    old-wait t h = ap (λ (l : List ℕ). word l t) isWaits ∙ getD-set-other waits₁ count t child 0 (λ e. omega (arith, e, h))
+
+    -- and those that joined
+    old-key : (t : ℕ) → n ≤ t → t < count → word keys₂ (word waits₂ t) < FAR
+    old-key t low h =
+        omega (arith, ap (word keys₂) (old-wait t h), keys-word (word waits₁ t), lowered-no-more keys₁ child key (word waits₁ t), s .has-key t low h)
+
+    old-differ : (t r : ℕ) → n ≤ t → t < r → r < count → word waits₂ t ≢ word waits₂ r
+    old-differ t r low less h same = s .differ t r low less h (sym (old-wait t (omega arith)) ∙ same ∙ old-wait r h)
+
     -- nothing joins
-    stay : (word keys₁ child < FAR) ⊎ (FAR ≤ key) → waits₂ ≡ waits₁ → count₂ ≡ count → Spread mem first dx (Among list (u + 1)) keys waits n keys₂ waits₂ count₂
-    stay why same-waits same-count =
+    stay : (word keys₁ child < FAR) ⊎ (FAR ≤ key) → count₂ ≡ count → Spread mem first dx (Among list (u + 1)) keys waits n keys₂ waits₂ count₂
+    stay why same-count =
         record {
           total = omega (arith, s .total, ap farCount isKeys, far-lowered keys₁ child key);
           keys-length = keys-length-next;
-          waits-length = ap length same-waits ∙ s .waits-length;
+          waits-length = waits-length-next;
           grows = omega (arith, s .grows);
           no-more = no-more-next;
           bound = bound-next;
-          kept = λ t h. ap (λ (l : List ℕ). word l t) same-waits ∙ s .kept t h;
+          kept = λ t h. old-wait t (omega (arith, s .grows)) ∙ s .kept t h;
           new = λ t low high.
-              let (r, among, e, none) = s .new t low (omega arith) in
-              (r, later r among, ap (λ (l : List ℕ). word l t) same-waits ∙ e, none);
+              let before : t < count = omega arith in
+              let (r, among, e, none) = s .new t low before in
+              (r, later r among, old-wait t before ∙ e, none);
           joined = λ q h. old-joined (⊎-elim (λ old. old) (λ (same, less, near). ⊎-elim (λ some. omega (arith, ap (word keys₁) same)) (λ far. absurd (omega arith)) why) (lowered-found keys₁ child key FAR q (omega (arith, keys-word q))));
+          has-key = λ t low high. old-key t low (omega arith);
+          differ = λ t r low less high. old-differ t r low less (omega arith);
         }
       where
         old-joined : {q : ℕ} → word keys₁ q < FAR → (word keys q < FAR) ⊎ ((t : ℕ) × (n ≤ t) × (t < count₂) × (word waits₂ t ≡ q))
         old-joined {q} h =
-            ⊎-elim inl (λ (t, low, high, e). inr (t, low, omega arith, ap (λ (l : List ℕ). word l t) same-waits ∙ e)) (s .joined q h)
+            ⊎-elim inl (λ (t, low, high, e). inr (t, low, omega arith, old-wait t high ∙ e)) (s .joined q h)
 
     -- the child joins
-    join : key < FAR → FAR ≤ word keys₁ child → waits₂ ≡ set waits₁ count child → count₂ ≡ count + 1 → Spread mem first dx (Among list (u + 1)) keys waits n keys₂ waits₂ count₂
-    join near none next-waits next-count =
+    join : key < FAR → FAR ≤ word keys₁ child → count₂ ≡ count + 1 → Spread mem first dx (Among list (u + 1)) keys waits n keys₂ waits₂ count₂
+    join near none next-count =
         record {
           total = omega (arith, s .total, fewer);
           keys-length = keys-length-next;
-          waits-length = ap length next-waits ∙ length-set waits₁ count child ∙ s .waits-length;
+          waits-length = waits-length-next;
           grows = omega (arith, s .grows);
           no-more = no-more-next;
           bound = bound-next;
           kept = λ t h. old-wait t (omega (arith, s .grows)) ∙ s .kept t h;
           new = λ t low high. new-next t low high (ℕ-discrete t count);
           joined = λ q h. ⊎-elim old-joined (λ (same, less, small). inr (count, s .grows, omega arith, new-wait ∙ sym same)) (lowered-found keys₁ child key FAR q (omega (arith, keys-word q)));
+          has-key = λ t low high. key-next t low high (ℕ-discrete t count);
+          differ = λ t r low less high. differ-next t r low less high (ℕ-discrete r count);
         }
       where
         fewer : farCount keys₂ < farCount keys₁
         fewer = omega (arith, ap farCount (isKeys ∙ lowered-set keys₁ child key (omega arith)), far-new keys₁ child key none near)
 
         new-wait : word waits₂ count ≡ child
-        new-wait = ap (λ (l : List ℕ). word l count) next-waits ∙ getD-set-same waits₁ count child 0 (omega (arith, s .waits-length, s .total, fewer))
-
-        old-wait : (t : ℕ) → t < count → word waits₂ t ≡ word waits₁ t
-        old-wait t h = ap (λ (l : List ℕ). word l t) next-waits ∙ getD-set-other waits₁ count t child 0 (λ e. omega (arith, e, h))
+        new-wait = ap (λ (l : List ℕ). word l count) isWaits ∙ getD-set-same waits₁ count child 0 (omega (arith, s .waits-length, s .total, fewer))
 
         old-joined : {q : ℕ} → word keys₁ q < FAR → (word keys q < FAR) ⊎ ((t : ℕ) × (n ≤ t) × (t < count₂) × (word waits₂ t ≡ q))
         old-joined {q} h = ⊎-elim inl (λ (t, low, high, e). inr (t, low, omega arith, old-wait t high ∙ e)) (s .joined q h)
@@ -201,12 +221,24 @@ module _ {mem : List ℕ} {first : ℕ} {dx : List ℕ} (list : List ℕ) where
             let (r, among, e, fresh) = s .new t low before in
             (r, later r among, old-wait t before ∙ e, fresh)
 
+        key-next : (t : ℕ) → n ≤ t → t < count₂ → Dec (t ≡ count) → word keys₂ (word waits₂ t) < FAR
+        key-next t low high (yes same) = omega (arith, ap (word keys₂) (ap (word waits₂) same ∙ new-wait), keys-word child, lowered-here keys₁ child key, near)
+        key-next t low high (no other) = old-key t low (omega (arith, other, high, next-count))
+
+        -- those that joined before have a key, and the child had none
+        differ-next : (t r : ℕ) → n ≤ t → t < r → r < count₂ → Dec (r ≡ count) → word waits₂ t ≢ word waits₂ r
+        differ-next t r low less high (yes last) same =
+            let before : t < count = omega (arith, less, last) in
+            let is-child : word waits₁ t ≡ child = sym (old-wait t before) ∙ same ∙ ap (word waits₂) last ∙ new-wait in
+            omega (arith, s .has-key t low before, ap (word keys₁) is-child, none)
+        differ-next t r low less high (no other) same = old-differ t r low less (omega (arith, other, high, next-count)) same
+
     pub spread-more : Spread mem first dx (Among list (u + 1)) keys waits n keys₂ waits₂ count₂
-    spread-more = by given
+    spread-more = by (key-given keys₁ child key count count₂ isCount)
       where
-        by : KeyGiven keys₁ child key waits₁ count waits₂ count₂ → Spread mem first dx (Among list (u + 1)) keys waits n keys₂ waits₂ count₂
-        by (joins near none isSet more) = join near none isSet more
-        by (stays why same-waits same-count) = stay why same-waits same-count
+        by : KeyGiven keys₁ child key count count₂ → Spread mem first dx (Among list (u + 1)) keys waits n keys₂ waits₂ count₂
+        by (joins near none next-count) = join near none next-count
+        by (stays why same-count) = stay why same-count
 
   pub spread-all : {t count : ℕ} {keys waits : List ℕ} {n : ℕ} {keys′ waits′ : List ℕ} {n′ : ℕ} → Spread mem first dx (Among list t) keys waits n keys′ waits′ n′ → t ≤ count → count ≤ t
       → Spread mem first dx (Among list count) keys waits n keys′ waits′ n′
@@ -215,7 +247,7 @@ module _ {mem : List ℕ} {first : ℕ} {dx : List ℕ} (list : List ℕ) where
       subst (λ (k : ℕ). Spread mem first dx (Among list k) keys waits n keys′ waits′ n′) same s
 
 -- The rows of two lists have given keys, and no other has one to give.
-module _ {mem : List ℕ} {first : ℕ} {all : Bool} {dx : List ℕ} {size : ℕ} {places near : List ℕ} {known : ℕ} {asked : List ℕ} {count : ℕ} (l : Looked mem first all dx size places near known asked count)
+module _ {mem : List ℕ} {first : ℕ} (all : Bool) {dx : List ℕ} {size : ℕ} {places near : List ℕ} {known : ℕ} {asked : List ℕ} {count : ℕ} (l : Looked mem first dx (isAsked all mem first dx) size places near known asked count)
     {dx′ : List ℕ} {keys waits : List ℕ} {n : ℕ} {keys₁ waits₁ : List ℕ} {n₁ : ℕ} {keys₂ waits₂ : List ℕ} {n₂ : ℕ}
     (s : Spread mem first dx′ (Among places known) keys waits n keys₁ waits₁ n₁) (s₂ : Spread mem first dx′ (Among asked count) keys₁ waits₁ n₁ keys₂ waits₂ n₂) where
   -- a row that has a key to give is known, or is asked for
@@ -227,66 +259,83 @@ module _ {mem : List ℕ} {first : ℕ} {all : Bool} {dx : List ℕ} {size : ℕ
       by (yes some) = inl (l .knows .all i hi (lt-ltb _ FAR some))
       by (no none) = inr (l .asks .all i hi (both-pass _ _ (le-leb FAR (nearAt mem first dx i) (omega (arith, none))) (right-true all _ (lt-ltb (belowAt mem first i) FAR (omega arith)))))
 
-  pub spread-listed : Spread mem first dx′ (λ i. i < size) keys waits n keys₂ waits₂ n₂
-  spread-listed =
+  -- where not all rows are asked for, each row gives a key
+  pub spread-listed : all ≡ false → Spread mem first dx′ (GivenRow all mem first size dx) keys waits n keys₂ waits₂ n₂
+  spread-listed some =
       record {
         total = omega (arith, s .total, s₂ .total);
         keys-length = s₂ .keys-length ∙ s .keys-length;
         waits-length = s₂ .waits-length;
         grows = omega (arith, s .grows, s₂ .grows);
         no-more = λ q. omega (arith, s .no-more q, s₂ .no-more q);
-        bound = λ i hi real. ⊎-elim
+        bound = λ i given real. ⊎-elim
             (λ among. omega (arith, s .bound i among real, s₂ .no-more (childAt mem first i)))
             (λ among. s₂ .bound i among real)
-            (listed i hi real);
+            (listed i (given .is-row) real);
         kept = λ t h. s₂ .kept t (omega (arith, s .grows)) ∙ s .kept t h;
         new = λ t low high. new t low high (decLt t n₁);
         joined = λ q h. ⊎-elim
             (λ old. ⊎-elim inl (λ (t, low, high, e). inr (t, low, omega (arith, s₂ .grows), s₂ .kept t high ∙ e)) (s .joined q old))
             (λ (t, low, high, e). inr (t, omega (arith, s .grows), high, e))
             (s₂ .joined q h);
+        has-key = λ t low high. has-key t low high (decLt t n₁);
+        differ = λ t u low less high. differ t u low less high (decLt t n₁) (decLt u n₁);
       }
     where
-      new : (t : ℕ) → n ≤ t → t < n₂ → Dec (t < n₁) → (i : ℕ) × (i < size) × (word waits₂ t ≡ childAt mem first i) × (FAR ≤ word keys (childAt mem first i))
+      given-row : (i : ℕ) → i < size → GivenRow all mem first size dx i
+      given-row i hi = record { is-row = hi; is-given = λ every. absurd (true≢false (sym every ∙ some)) }
+
+      new : (t : ℕ) → n ≤ t → t < n₂ → Dec (t < n₁) → (i : ℕ) × GivenRow all mem first size dx i × (word waits₂ t ≡ childAt mem first i) × (FAR ≤ word keys (childAt mem first i))
       new t low high (yes before) =
           let (i, (u, hu, is), e, fresh) = s .new t low before in
-          (i, omega (arith, l .knows .only u hu .0, is), s₂ .kept t before ∙ e, fresh)
+          (i, given-row i (omega (arith, l .knows .only u hu .0, is)), s₂ .kept t before ∙ e, fresh)
       new t low high (no after) =
           let (i, (u, hu, is), e, fresh) = s₂ .new t (omega (arith, after)) high in
-          (i, omega (arith, l .asks .only u hu .0, is), e, omega (arith, fresh, s .no-more (childAt mem first i)))
+          (i, given-row i (omega (arith, l .asks .only u hu .0, is)), e, omega (arith, fresh, s .no-more (childAt mem first i)))
 
--- under another name
-pub spread-named : {mem : List ℕ} {first first′ : ℕ} {dx : List ℕ} {Given : ℕ → Type 0} {keys waits : List ℕ} {n : ℕ} {keys′ waits′ : List ℕ} {n′ : ℕ} → first ≡ first′
-    → Spread mem first dx Given keys waits n keys′ waits′ n′ → Spread mem first′ dx Given keys waits n keys′ waits′ n′
-spread-named {mem} {dx = dx} {Given} {keys} {waits} {n} {keys′} {waits′} {n′} f s = subst (λ (a : ℕ). Spread mem a dx Given keys waits n keys′ waits′ n′) f s
+      first-key : (t : ℕ) → n ≤ t → t < n₁ → word keys₁ (word waits₂ t) < FAR
+      first-key t low before = omega (arith, ap (word keys₁) (s₂ .kept t before), s .has-key t low before)
+
+      has-key : (t : ℕ) → n ≤ t → t < n₂ → Dec (t < n₁) → word keys₂ (word waits₂ t) < FAR
+      has-key t low high (yes before) = omega (arith, first-key t low before, s₂ .no-more (word waits₂ t))
+      has-key t low high (no after) = s₂ .has-key t (omega (arith, after)) high
+
+      -- those of the first list have a key when those of the second join
+      differ : (t u : ℕ) → n ≤ t → t < u → u < n₂ → Dec (t < n₁) → Dec (u < n₁) → word waits₂ t ≢ word waits₂ u
+      differ t u low less high (no after) d same = s₂ .differ t u (omega (arith, after)) less high same
+      differ t u low less high (yes first′) (yes second) same = s .differ t u low less second (sym (s₂ .kept t first′) ∙ same ∙ s₂ .kept u second)
+      differ t u low less high (yes first′) (no after) same =
+          let (i, among, e, fresh) = s₂ .new u (omega (arith, after)) high in
+          omega (arith, first-key t low first′, ap (word keys₁) (same ∙ e), fresh)
+
+-- under the names of a part's words
+pub opened-of : {mem : List ℕ} (p : ℕ) {first table size : ℕ} {all : Bool} {dx keys waits : List ℕ} {n : ℕ} {dx′ keys′ waits′ : List ℕ} {n′ : ℕ} → first ≡ partWord mem p 2 → table ≡ partWord mem p 3 → size ≡ rowsIn mem p
+    → Closer mem first table size dx (AskedRow all mem first size dx) dx′ → Spread mem first dx′ (GivenRow all mem first size dx) keys waits n keys′ waits′ n′ → OpenedUp mem p all dx keys waits n dx′ keys′ waits′ n′
+opened-of {mem} p {first} {all = all} {dx} {keys} {waits} {n} {dx′} {keys′} {waits′} {n′} isFirst isTable isSize c s = (
+  closer-named (λ a b. AskedRow all mem a b dx) isFirst isTable isSize c,
+  subst (λ (a : ℕ). Spread mem a dx′ (GivenRow all mem a (rowsIn mem p) dx) keys waits n keys′ waits′ n′) isFirst (subst (λ (a : ℕ). Spread mem first dx′ (GivenRow all mem first a dx) keys waits n keys′ waits′ n′) isSize s),
+)
 
 pub opened-named : {mem : List ℕ} {p part : ℕ} {all : Bool} {dx keys waits : List ℕ} {n : ℕ} {dx′ keys′ waits′ : List ℕ} {n′ : ℕ} → p ≡ part → OpenedUp mem p all dx keys waits n dx′ keys′ waits′ n′
     → OpenedUp mem part all dx keys waits n dx′ keys′ waits′ n′
 opened-named {mem} {all = all} {dx} {keys} {waits} {n} {dx′} {keys′} {waits′} {n′} isPart o = subst (λ (q : ℕ). OpenedUp mem q all dx keys waits n dx′ keys′ waits′ n′) isPart o
 
--- what the arms of `lower_key` leave
-module _ (keys waits : List ℕ) (count part key : ℕ) {at old : ℕ} {keys′ : List ℕ} (isAt : at ≡ part) (isOld : old ≡ word keys at) (isKeys : keys′ ≡ lowered keys at key) where
-  old-is : old ≡ word keys part
-  old-is = isOld ∙ ap (word keys) isAt
+-- a test after another
+pub and-false : (b : Bool) → false ≡ (b && false)
+and-false true = refl
+and-false false = refl
 
-  keys-are : keys′ ≡ lowered keys part key
-  keys-are = isKeys ∙ ap (λ (k : ℕ). lowered keys k key) isAt
+pub and-true : (b : Bool) → b ≡ (b && true)
+and-true true = refl
+and-true false = refl
 
-  abbrev Given : List ℕ → ℕ → Type 0
-  Given waits′ count′ =
-      (keys′ ≡ lowered keys part key) × (waits′ ≡ cond (isNew keys part key) (set waits count part) waits) × (count′ ≡ cond (isNew keys part key) (count + 1) count)
+-- what `lower_key` leaves
+pub key-lowered : (keys : List ℕ) (key : ℕ) {at old part least : ℕ} {keys′ : List ℕ} → at ≡ part → old ≡ word keys at → least ≡ min key old → keys′ ≡ set keys at least → keys′ ≡ lowered keys part key
+key-lowered keys key {at} isAt isOld isLeast isKeys =
+    isKeys ∙ lowered-lesser keys at key (isLeast ∙ ap (min key) isOld) ∙ ap (λ (k : ℕ). lowered keys k key) isAt
 
-  pub key-joins : {waits′ : List ℕ} → key < FAR → FAR ≤ old → waits′ ≡ set waits count part → Given waits′ (count + 1)
-  key-joins near none isWaits =
-      let e : isNew keys part key ≡ true = is-new keys part key near (omega (arith, old-is)) in
-      (keys-are, isWaits ∙ ap (λ (b : Bool). cond b (set waits count part) waits) (sym e), ap (λ (b : Bool). cond b (count + 1) count) (sym e))
-
-  pub key-stays : key < FAR → old < FAR → Given waits count
-  key-stays near some =
-      let e : isNew keys part key ≡ false = not-new keys part key near (omega (arith, old-is)) in
-      (keys-are, ap (λ (b : Bool). cond b (set waits count part) waits) (sym e), ap (λ (b : Bool). cond b (count + 1) count) (sym e))
-
-  pub key-none : FAR ≤ key → Given waits count
-  key-none far =
-      let e : isNew keys part key ≡ false = no-key keys part key far in
-      (keys-are, ap (λ (b : Bool). cond b (set waits count part) waits) (sym e), ap (λ (b : Bool). cond b (count + 1) count) (sym e))
+pub key-counted : (keys : List ℕ) (key count : ℕ) {at old part r : ℕ} {is : Bool} → at ≡ part → old ≡ word keys at → is ≡ (ltb key FAR && leb FAR old) → r ≡ cond is (count + 1) count
+    → r ≡ cond (isNew keys part key) (count + 1) count
+unfolding isNew
+key-counted keys key count isAt isOld isTest isCount =
+    isCount ∙ ap (λ (b : Bool). cond b (count + 1) count) (isTest ∙ ap (λ (k : ℕ). ltb key FAR && leb FAR k) (isOld ∙ ap (word keys) isAt))

@@ -7,15 +7,16 @@ use cells::word;
 use far_sums::FAR;
 use far_sums::far_sum;
 ghost use mathlib.Core.Path.{_≡_};
-ghost use mathlib.Core.Logic.{_⊎_};
-ghost use mathlib.Core.Bool.{cond};
+ghost use mathlib.Core.Bool.{Bool, true, cond, _&&_, _||_};
+ghost use mathlib.Core.List.{List};
 ghost use Prim.Native.Nat.{ℕ, _+_, _*_, _≤_, _<_, _^_, _%_, _/_, min};
-ghost use lib.ListN.{length, set};
+ghost use lib.ListN.{length, set, take};
+ghost use lib.Dec.{leb, ltb};
 ghost use Rattle.words.specs.Limits.{FAR};
 ghost use Rattle.words.specs.Lists.{word};
 ghost use Rattle.words.specs.Ranks.{rank};
 ghost use Rattle.far_sums.specs.Least.{Least};
-ghost use Rattle.part_bounds.specs.Bounds.{partWord, rowsIn, showsOwn, Looked, wayIn, wayOver, lowered, isAsked, AskedRow, Closer, Relaxed, isNew, farCount, keyOf, Among, Spread, OpenedUp, outOf, keyAt};
+ghost use Rattle.part_bounds.specs.Bounds.{partWord, rowsIn, Fits, showsOwn, ownRows, Apart, Lists, Nears, Looked, wayOver, lowered, isAsked, AskedRow, OwnRow, Closer, Relaxed, Alone, isNew, farCount, Among, Spread, OpenedUp, outOf, Nearest};
 
 pub const MOST_ROWS: usize = 128;
 
@@ -59,16 +60,11 @@ pub fn active_rows(mem: &[u32], first: usize, size: usize) -> usize
     n
 }
 
-// Row i's distance is asked for.
-fn is_asked(mem: &[u32], first: usize, i: usize, all: bool, dx: &[u32]) -> bool
-    requires { ⌜ (first < 2 ^ 32) × (i ≤ 128) ⌝ }
-    ensures { λ r. ⌜ r ≡ isAsked all (now (mem .entry)) first (now (dx .entry)) i ⌝ }
+// A row's distance is asked for, where `near` is its vertex's distance so far and `shown` the distance that the row further down shows.
+fn is_asked(near: u32, shown: u32, all: bool) -> bool
+    ensures { λ r. ⌜ r ≡ (leb FAR near && (all || ltb shown FAR)) ⌝ }
 {
-    let v = row_word(mem, first, i, 2) % 65536;
-    let d = word(dx, wide(v));
-    let below = wide(row_word(mem, first, i, 3));
-    let shown = word(mem, below + 1);
-    if d < FAR {
+    if near < FAR {
         return false;
     }
     if all {
@@ -94,19 +90,22 @@ fn look(
     near: &mut [u32],
     asked: &mut [u32],
 ) -> Listed
-    requires { ⌜ (first < 2 ^ 32) × (size ≤ 128) × (length (now places) ≡ 128) × (length (now near) ≡ 128) × (length (now asked) ≡ 128) ⌝ }
-    ensures { λ r. ⌜ Looked (now (mem .entry)) first all (now (dx .entry)) size (now (places .exit)) (now (near .exit)) (r .known) (now (asked .exit)) (r .asked) ⌝ }
+    requires { ⌜ (first < 2 ^ 32) × (size ≤ 128) × (first + 4 * size ≤ length (now mem)) × (length (now places) ≡ 128) × (length (now near) ≡ 128) × (length (now asked) ≡ 128) ⌝ }
+    ensures { λ r. ⌜ Looked (now (mem .entry)) first (now (dx .entry)) (isAsked all (now (mem .entry)) first (now (dx .entry))) size (now (places .exit)) (now (near .exit)) (r .known) (now (asked .exit)) (r .asked) ⌝ }
 {
+    let end = first + 4 * size;
+    let rows = &mem[first..end];
     let mut known = 0;
     let mut count = 0;
     let mut i = 0;
     while i < size {
-        let v = row_word(mem, first, i, 2) % 65536;
-        let d = word(dx, wide(v));
-        let is = is_asked(mem, first, i, all, dx);
-        put(places, known, i as u32);
-        put(near, known, d);
-        put(asked, count, i as u32);
+        let owner = rows[4 * i + 2];
+        let below = wide(rows[4 * i + 3]);
+        let d = word(dx, wide(owner % 65536));
+        let is = is_asked(d, word(mem, below + 1), all);
+        places[known] = i as u32;
+        near[known] = d;
+        asked[count] = i as u32;
         known = more(known, d < FAR);
         count = more(count, is);
         i += 1;
@@ -117,25 +116,42 @@ fn look(
     }
 }
 
-// The least way from a row's vertex by way of one of those: the row's words of the table start at `at`.
-fn least_way(mem: &[u32], at: usize, places: &[u32], near: &[u32], count: usize) -> u32
-    requires { ⌜ at < 2 ^ 33 ⌝ }
-    ensures { λ r. ⌜ Least (wayIn (now (mem .entry)) at (now (places .entry)) (now (near .entry))) count r ⌝ }
+// The same for a leaf, where the rows that show their own vertex are asked for, known or not.
+fn look_leaf(
+    mem: &[u32],
+    first: usize,
+    size: usize,
+    dx: &[u32],
+    places: &mut [u32],
+    near: &mut [u32],
+    asked: &mut [u32],
+) -> Listed
+    requires { ⌜ (first < 2 ^ 32) × (size ≤ 128) × (first + 4 * size ≤ length (now mem)) × (length (now places) ≡ 128) × (length (now near) ≡ 128) × (length (now asked) ≡ 128) ⌝ }
+    ensures { λ r. ⌜ Looked (now (mem .entry)) first (now (dx .entry)) (showsOwn (now (mem .entry)) first) size (now (places .exit)) (now (near .exit)) (r .known) (now (asked .exit)) (r .asked) ⌝ }
 {
-    let mut least = FAR;
-    let mut t = 0;
-    while t < count {
-        let j = wide(word(places, t));
-        let way = far_sum(word(mem, at + j), word(near, t));
-        if way < least {
-            least = way;
-        }
-        t += 1;
+    let end = first + 4 * size;
+    let rows = &mem[first..end];
+    let mut known = 0;
+    let mut count = 0;
+    let mut i = 0;
+    while i < size {
+        let shown = rows[4 * i + 1];
+        let owner = rows[4 * i + 2];
+        let d = word(dx, wide(owner % 65536));
+        places[known] = i as u32;
+        near[known] = d;
+        asked[count] = i as u32;
+        known = more(known, d < FAR);
+        count = more(count, shown == 0);
+        i += 1;
     }
-    least
+    Listed {
+        known: known,
+        asked: count,
+    }
 }
 
-// The same over the row's own words, for which every place is within the row.
+// The least way over a row's words of the table by way of one of the places, which are all within the row.
 fn least_in(row: &[u32], places: &[u32], near: &[u32], count: usize) -> u32
     requires { ⌜ (count ≤ length (now places)) × (count ≤ length (now near)) × ((t : ℕ) → t < count → word (now places) t < length (now row)) ⌝ }
     ensures { λ r. ⌜ Least (wayOver (now (row .entry)) (now (places .entry)) (now (near .entry))) count r ⌝ }
@@ -153,19 +169,6 @@ fn least_in(row: &[u32], places: &[u32], near: &[u32], count: usize) -> u32
     least as u32
 }
 
-// The least way from the row whose words start at `at`; a row beyond the memory is read word by word.
-fn row_way(mem: &[u32], at: usize, size: usize, places: &[u32], near: &[u32], count: usize) -> u32
-    requires { ⌜ (at < 2 ^ 33) × (size ≤ 128) × (count ≤ length (now places)) × (count ≤ length (now near)) × ((t : ℕ) → t < count → word (now places) t < size) ⌝ }
-    ensures { λ r. ⌜ Least (wayIn (now (mem .entry)) at (now (places .entry)) (now (near .entry))) count r ⌝ }
-{
-    let end = at + size;
-    if end <= mem.len() {
-        let row = &mem[at..end];
-        return least_in(row, places, near, count);
-    }
-    least_way(mem, at, places, near, count)
-}
-
 // A word made less, where `x` is less.
 pub fn lower(words: &mut [u32], i: usize, x: u32)
     ensures { λ _. ⌜ now (words .exit) ≡ lowered (now (words .entry)) i x ⌝ }
@@ -175,50 +178,209 @@ pub fn lower(words: &mut [u32], i: usize, x: u32)
     }
 }
 
-// The rows that are asked for, listed as `look` does: each gets as little as a way by way of a row makes it.
+// The rows that are asked for, listed as `look_leaf` does: each gets as little as a way by way of a row makes it.
 fn relax_asked(
     mem: &[u32],
     first: usize,
     table: usize,
     size: usize,
-    all: bool,
     dx: &mut [u32],
-    places: &[u32],
-    near: &[u32],
+    places: &[u32; 128],
+    near: &[u32; 128],
     known: usize,
-    asked: &[u32],
+    asked: &[u32; 128],
     count: usize,
 )
-    requires { ⌜ (first < 2 ^ 32) × (table < 2 ^ 32) × (size ≤ 128) × Looked (now mem) first all (now dx) size (now places) (now near) known (now asked) count ⌝ }
-    ensures { λ _. ⌜ Closer (now (mem .entry)) first table size (now (dx .entry)) (AskedRow all (now (mem .entry)) first size (now (dx .entry))) (now (dx .exit)) ⌝ }
+    requires { ⌜ (first < 2 ^ 32) × (table < 2 ^ 32) × (size ≤ 128) × (first + 4 * size ≤ length (now mem)) × (table + size * size ≤ length (now mem)) × ((test : ℕ → Bool) × Looked (now mem) first (now dx) test size (now places) (now near) known (now asked) count) ⌝ }
+    ensures { λ _. ⌜ Closer (now (mem .entry)) first table size (now (dx .entry)) (Among (now (asked .entry)) count) (now (dx .exit)) ⌝ }
 {
+    let end = first + 4 * size;
+    let rows = &mem[first..end];
     let mut t = 0;
     while t < count {
         let i = wide(word(asked, t));
-        let way = row_way(mem, table + size * i, size, places, near, known);
-        let v = row_word(mem, first, i, 2) % 65536;
-        lower(dx, wide(v), way);
+        let at = table + size * i;
+        let past = at + size;
+        let row = &mem[at..past];
+        let way = least_in(row, places, near, known);
+        lower(dx, wide(rows[4 * i + 2] % 65536), way);
         t += 1;
     }
 }
 
-// The part's rows are listed, and of those that have no distance yet, all, or those below which something is shown, get theirs.
-fn relax_listed(
+// The lesser of two numbers.
+fn lesser(a: u32, b: u32) -> u32
+    ensures { λ r. ⌜ r ≡ min a b ⌝ }
+{
+    if a < b { a } else { b }
+}
+
+// A part whose key was `old` joins those that wait when it gets this one.
+fn joins(old: u32, key: u32) -> bool
+    ensures { λ r. ⌜ r ≡ (ltb key FAR && leb FAR old) ⌝ }
+{
+    if old < FAR {
+        return false;
+    }
+    key < FAR
+}
+
+// A part's key made less, where `key` is less. A part that had none joins those that wait: the word behind the last of them is written in any case, and counts if
+// the part is new.
+fn lower_key(keys: &mut [u32; 512], waits: &mut [u32], count: usize, part: u32, key: u32) -> usize
+    requires { ⌜ farCount (now keys) + count ≤ 512 ⌝ }
+    ensures { λ r. ⌜ (now (keys .exit) ≡ lowered (now (keys .entry)) part key) × (now (waits .exit) ≡ set (now (waits .entry)) count part) × (r ≡ cond (isNew (now (keys .entry)) part key) (count + 1) count) ⌝ }
+{
+    let at = wide(part);
+    let old = word(keys, at);
+    put(keys, at, lesser(key, old));
+    put(waits, count, part);
+    more(count, joins(old, key))
+}
+
+// Each of the known rows gives the child that it lies in a key: no active vertex of the child is nearer by way of that row. The key is the distance that the row
+// further down shows, and on from there.
+fn spread_known(
     mem: &[u32],
-    p: usize,
+    first: usize,
+    size: usize,
+    places: &[u32; 128],
+    near: &[u32; 128],
+    count: usize,
+    keys: &mut [u32; 512],
+    waits: &mut [u32],
+    n: usize,
+) -> usize
+    requires { ⌜ (first < 2 ^ 32) × (size ≤ 128) × (first + 4 * size ≤ length (now mem)) × (farCount (now keys) + n ≤ 512) × (length (now waits) ≡ 512) × ((t : ℕ) → t < count → word (now places) t < size) × ((dx : List ℕ) × Nears (now mem) first dx (now places) (now near) count) ⌝ }
+    ensures { λ r. ⌜ ((dx : List ℕ) → Nears (now (mem .entry)) first dx (now (places .entry)) (now (near .entry)) count → Spread (now (mem .entry)) first dx (Among (now (places .entry)) count) (now (keys .entry)) (now (waits .entry)) n (now (keys .exit)) (now (waits .exit)) r) ⌝ }
+{
+    let end = first + 4 * size;
+    let rows = &mem[first..end];
+    let mut waiting = n;
+    let mut t = 0;
+    while t < count {
+        let i = wide(word(places, t));
+        let owner = rows[4 * i + 2];
+        let below = wide(rows[4 * i + 3]);
+        let key = far_sum(word(mem, below + 1), word(near, t));
+        waiting = lower_key(keys, waits, waiting, owner / 65536, key);
+        t += 1;
+    }
+    waiting
+}
+
+// The rows that are asked for, listed as `look` does: each gets as little as a way by way of a row makes it, and gives its child a key at once.
+fn relax_spread(
+    mem: &[u32],
+    first: usize,
+    table: usize,
+    size: usize,
+    dx: &mut [u32],
+    places: &[u32; 128],
+    near: &[u32; 128],
+    known: usize,
+    asked: &[u32; 128],
+    count: usize,
+    keys: &mut [u32; 512],
+    waits: &mut [u32],
+    n: usize,
+) -> usize
+    requires { ⌜ (first < 2 ^ 32) × (table < 2 ^ 32) × (size ≤ 128) × (first + 4 * size ≤ length (now mem)) × (table + size * size ≤ length (now mem)) × ((all : Bool) × Looked (now mem) first (now dx) (isAsked all (now mem) first (now dx)) size (now places) (now near) known (now asked) count) × (farCount (now keys) + n ≤ 512) × (length (now waits) ≡ 512) ⌝ }
+    ensures { λ r. ⌜ (farCount (now (keys .exit)) + r ≤ farCount (now (keys .entry)) + n) × (Apart (now (mem .entry)) first size → Closer (now (mem .entry)) first table size (now (dx .entry)) (Among (now (asked .entry)) count) (now (dx .exit)) × Spread (now (mem .entry)) first (now (dx .exit)) (Among (now (asked .entry)) count) (now (keys .entry)) (now (waits .entry)) n (now (keys .exit)) (now (waits .exit)) r) ⌝ }
+{
+    let end = first + 4 * size;
+    let rows = &mem[first..end];
+    let mut waiting = n;
+    let mut t = 0;
+    while t < count {
+        let i = wide(word(asked, t));
+        let at = table + size * i;
+        let past = at + size;
+        let row = &mem[at..past];
+        let way = least_in(row, places, near, known);
+        let owner = rows[4 * i + 2];
+        let below = wide(rows[4 * i + 3]);
+        put(dx, wide(owner % 65536), way);
+        let key = far_sum(word(mem, below + 1), way);
+        waiting = lower_key(keys, waits, waiting, owner / 65536, key);
+        t += 1;
+    }
+    waiting
+}
+
+// A part's rows get their distances, and its children the keys that these give: what is not listed has none to give. Where all rows are asked for, those that had
+// a distance give none. A part that does not lie within the memory changes nothing.
+pub fn open_up(
+    mem: &[u32],
+    part: u32,
     all: bool,
     dx: &mut [u32],
-    places: &mut [u32],
-    near: &mut [u32],
-    asked: &mut [u32],
-) -> Listed
-    requires { ⌜ (p < 2 ^ 32) × (length (now places) ≡ 128) × (length (now near) ≡ 128) × (length (now asked) ≡ 128) ⌝ }
-    ensures { λ r. ⌜ Looked (now (mem .entry)) (partWord (now (mem .entry)) p 2) all (now (dx .entry)) (rowsIn (now (mem .entry)) p) (now (places .exit)) (now (near .exit)) (r .known) (now (asked .exit)) (r .asked) × Relaxed (now (mem .entry)) p all (now (dx .entry)) (now (dx .exit)) ⌝ }
+    keys: &mut [u32; 512],
+    waits: &mut [u32; 512],
+    n: usize,
+    places: &mut [u32; 128],
+    near: &mut [u32; 128],
+    asked: &mut [u32; 128],
+) -> usize
+    requires { ⌜ farCount (now keys) + n ≤ 512 ⌝ }
+    ensures { λ r. ⌜ (farCount (now (keys .exit)) + r ≤ farCount (now (keys .entry)) + n) × (Fits (now (mem .entry)) part → OpenedUp (now (mem .entry)) part all (now (dx .entry)) (now (keys .entry)) (now (waits .entry)) n (now (dx .exit)) (now (keys .exit)) (now (waits .exit)) r) ⌝ }
+{
+    let p = wide(part);
+    let size = rows_in(mem, p);
+    let first = wide(part_word(mem, p, 2));
+    let table = wide(part_word(mem, p, 3));
+    if mem.len() < first + 4 * size {
+        return n;
+    }
+    if mem.len() < table + size * size {
+        return n;
+    }
+    let listed = look(mem, first, size, all, dx, places, near, asked);
+    let known = listed.known;
+    let count = listed.asked;
+    let mut joined = n;
+    if !all {
+        joined = spread_known(mem, first, size, places, near, known, keys, waits, n);
+    }
+    relax_spread(
+        mem,
+        first,
+        table,
+        size,
+        dx,
+        places,
+        near,
+        known,
+        asked,
+        count,
+        keys,
+        waits,
+        joined,
+    )
+}
+
+// The active rows of a leaf, those that show their own vertex, get their distances, and are listed by their numbers: how many there are.
+pub fn relax_leaf(
+    mem: &[u32],
+    p: usize,
+    dx: &mut [u32],
+    places: &mut [u32; 128],
+    near: &mut [u32; 128],
+    asked: &mut [u32; 128],
+) -> usize
+    requires { ⌜ p < 2 ^ 32 ⌝ }
+    ensures { λ r. ⌜ (r ≤ 128) × (Fits (now (mem .entry)) p → Closer (now (mem .entry)) (partWord (now (mem .entry)) p 2) (partWord (now (mem .entry)) p 3) (rowsIn (now (mem .entry)) p) (now (dx .entry)) (OwnRow (now (mem .entry)) (partWord (now (mem .entry)) p 2) (rowsIn (now (mem .entry)) p)) (now (dx .exit)) × (take r (now (asked .exit)) ≡ ownRows (now (mem .entry)) p)) ⌝ }
 {
     let size = rows_in(mem, p);
     let first = wide(part_word(mem, p, 2));
     let table = wide(part_word(mem, p, 3));
-    let listed = look(mem, first, size, all, dx, places, near, asked);
+    if mem.len() < first + 4 * size {
+        return 0;
+    }
+    if mem.len() < table + size * size {
+        return 0;
+    }
+    let listed = look_leaf(mem, first, size, dx, places, near, asked);
     let known = listed.known;
     let count = listed.asked;
     relax_asked(
@@ -226,7 +388,6 @@ fn relax_listed(
         first,
         table,
         size,
-        all,
         dx,
         places,
         near,
@@ -234,96 +395,62 @@ fn relax_listed(
         asked,
         count,
     );
-    listed
+    count
 }
 
-// Distances for a part's rows.
-pub fn relax(mem: &[u32], p: usize, all: bool, dx: &mut [u32])
-    requires { ⌜ p < 2 ^ 32 ⌝ }
-    ensures { λ _. ⌜ Relaxed (now (mem .entry)) p all (now (dx .entry)) (now (dx .exit)) ⌝ }
+// Each row's vertex gets at most what the table says from it to the row at `place`; and the rows that show their own vertex are listed by their numbers.
+fn lower_rows(
+    mem: &[u32],
+    first: usize,
+    table: usize,
+    size: usize,
+    place: usize,
+    dx: &mut [u32],
+    asked: &mut [u32],
+) -> usize
+    requires { ⌜ (first < 2 ^ 32) × (table < 2 ^ 32) × (size ≤ 128) × (place < size) × (first + 4 * size ≤ length (now mem)) × (table + size * size ≤ length (now mem)) × (length (now asked) ≡ 128) ⌝ }
+    ensures { λ r. ⌜ (length (now (dx .exit)) ≡ length (now (dx .entry))) × Lists (showsOwn (now (mem .entry)) first) size (now (asked .exit)) r × (Alone (now (mem .entry)) first size (now (dx .entry)) place → Closer (now (mem .entry)) first table size (now (dx .entry)) (AskedRow true (now (mem .entry)) first size (now (dx .entry))) (now (dx .exit))) ⌝ }
 {
-    let mut places = [0u32; 128];
-    let mut near = [0u32; 128];
-    let mut asked = [0u32; 128];
-    relax_listed(mem, p, all, dx, &mut places, &mut near, &mut asked);
-}
-
-// A part's key made less, where `key` is less. A part that had none joins those that wait.
-fn lower_key(keys: &mut [u32], waits: &mut [u32], count: usize, part: u32, key: u32) -> usize
-    requires { ⌜ farCount (now keys) + count ≤ 512 ⌝ }
-    ensures { λ r. ⌜ (now (keys .exit) ≡ lowered (now (keys .entry)) part key) × (now (waits .exit) ≡ cond (isNew (now (keys .entry)) part key) (set (now (waits .entry)) count part) (now (waits .entry))) × (r ≡ cond (isNew (now (keys .entry)) part key) (count + 1) count) ⌝ }
-{
-    let at = wide(part);
-    let old = word(keys, at);
-    lower(keys, at, key);
-    if key < FAR {
-        if FAR <= old {
-            put(waits, count, part);
-            return count + 1;
-        }
+    let end = first + 4 * size;
+    let rows = &mem[first..end];
+    let mut count = 0;
+    let mut i = 0;
+    while i < size {
+        let shown = rows[4 * i + 1];
+        let at = table + size * i + place;
+        lower(dx, wide(rows[4 * i + 2] % 65536), mem[at]);
+        asked[count] = i as u32;
+        count = more(count, shown == 0);
+        i += 1;
     }
     count
 }
 
-// The key that row i gives: the distance that the row further down shows, and on from there.
-fn key_of(mem: &[u32], first: usize, i: usize, dx: &[u32]) -> u32
-    requires { ⌜ (first < 2 ^ 32) × (i ≤ 128) ⌝ }
-    ensures { λ r. ⌜ r ≡ keyOf (now (mem .entry)) first (now (dx .entry)) i ⌝ }
-{
-    let v = row_word(mem, first, i, 2) % 65536;
-    let below = wide(row_word(mem, first, i, 3));
-    far_sum(word(mem, below + 1), word(dx, wide(v)))
-}
-
-// Each of the listed rows gives the child that it lies in a key: no active vertex of the child is nearer by way of that row.
-fn spread(
+// The rows of a leaf of which only the one at `place` has a distance, 0: each gets what the table says to that one. Those that show their own vertex are listed by
+// their numbers: how many there are.
+pub fn relax_own(
     mem: &[u32],
-    first: usize,
-    list: &[u32],
-    count: usize,
-    dx: &[u32],
-    keys: &mut [u32],
-    waits: &mut [u32],
-    n: usize,
-) -> usize
-    requires { ⌜ (first < 2 ^ 32) × (farCount (now keys) + n ≤ 512) × (length (now waits) ≡ 512) × ((t : ℕ) → t < count → word (now list) t ≤ 128) ⌝ }
-    ensures { λ r. ⌜ Spread (now (mem .entry)) first (now (dx .entry)) (Among (now (list .entry)) count) (now (keys .entry)) (now (waits .entry)) n (now (keys .exit)) (now (waits .exit)) r ⌝ }
-{
-    let mut waiting = n;
-    let mut t = 0;
-    while t < count {
-        let i = wide(word(list, t));
-        let key = key_of(mem, first, i, dx);
-        let child = row_word(mem, first, i, 2) / 65536;
-        waiting = lower_key(keys, waits, waiting, child, key);
-        t += 1;
-    }
-    waiting
-}
-
-// A part's rows get their distances, and its children the keys that these give: what is not listed has none to give.
-pub fn open_up(
-    mem: &[u32],
-    part: u32,
-    all: bool,
+    p: usize,
+    place: usize,
     dx: &mut [u32],
-    keys: &mut [u32],
-    waits: &mut [u32],
-    n: usize,
+    asked: &mut [u32; 128],
 ) -> usize
-    requires { ⌜ (farCount (now keys) + n ≤ 512) × (length (now waits) ≡ 512) ⌝ }
-    ensures { λ r. ⌜ OpenedUp (now (mem .entry)) part all (now (dx .entry)) (now (keys .entry)) (now (waits .entry)) n (now (dx .exit)) (now (keys .exit)) (now (waits .exit)) r ⌝ }
+    requires { ⌜ p < 2 ^ 32 ⌝ }
+    ensures { λ r. ⌜ (r ≤ 128) × (Fits (now (mem .entry)) p → place < rowsIn (now (mem .entry)) p → (Alone (now (mem .entry)) (partWord (now (mem .entry)) p 2) (rowsIn (now (mem .entry)) p) (now (dx .entry)) place → Relaxed (now (mem .entry)) p true (now (dx .entry)) (now (dx .exit))) × (take r (now (asked .exit)) ≡ ownRows (now (mem .entry)) p)) ⌝ }
 {
-    let p = wide(part);
-    let mut places = [0u32; 128];
-    let mut near = [0u32; 128];
-    let mut asked = [0u32; 128];
-    let listed = relax_listed(mem, p, all, dx, &mut places, &mut near, &mut asked);
+    let size = rows_in(mem, p);
     let first = wide(part_word(mem, p, 2));
-    let known = listed.known;
-    let count = listed.asked;
-    let joined = spread(mem, first, &places, known, dx, keys, waits, n);
-    spread(mem, first, &asked, count, dx, keys, waits, joined)
+    let table = wide(part_word(mem, p, 3));
+    if size <= place {
+        return 0;
+    }
+    if mem.len() < first + 4 * size {
+        return 0;
+    }
+    if mem.len() < table + size * size {
+        return 0;
+    }
+    lower_rows(mem, first, table, size, place, dx, asked)
 }
 
 // The distance of row i's vertex, if the row lies in the child c.
@@ -357,18 +484,18 @@ pub fn way_out(mem: &[u32], p: usize, c: u32, dx: &[u32]) -> u32
     least
 }
 
-// A waiting part with the least key: its place among them.
+// The least key of the parts that wait, from the one at `from` on, and its place.
 pub struct Waiting {
     pub at: usize,
     pub key: u32,
 }
 
-pub fn nearest_waiting(keys: &[u32], waits: &[u32], n: usize) -> Waiting
-    ensures { λ r. ⌜ Least (keyAt (now (keys .entry)) (now (waits .entry))) n (r .key) × (r .key < FAR → (r .at < n) × (r .key ≡ keyAt (now (keys .entry)) (now (waits .entry)) (r .at))) ⌝ }
+pub fn nearest_waiting(keys: &[u32; 512], waits: &[u32; 512], from: usize, n: usize) -> Waiting
+    ensures { λ r. ⌜ Nearest (now (keys .entry)) (now (waits .entry)) from n (r .key) (r .at) ⌝ }
 {
     let mut least = FAR;
-    let mut at = 0;
-    let mut t = 0;
+    let mut at = from;
+    let mut t = from;
     while t < n {
         let key = word(keys, wide(word(waits, t)));
         if key < least {

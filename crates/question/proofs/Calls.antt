@@ -5,71 +5,102 @@ use mathlib.Core.Logic.{_≢_}
 use mathlib.Core.Bool.{Bool, true, false, true≢false}
 use mathlib.Core.List.{List, []}
 use Prim.Native.Nat.{ℕ, zero, suc, _+_, _-_, _*_, _≤_, _<_, min}
-use native.Mathlib.Decide.{ℕ-discrete}
 use native.Mathlib.Omega.{arith}
 use lib.ListN.{length, set, replicate, length-set, length-replicate, getD-replicate}
 use lib.Dec.{leb}
+use borrow.Author.Tests.{lt-leb, le-leb}
 use Rattle.words.specs.Limits.{FAR}
 use Rattle.words.specs.Lists.{word}
 use Rattle.words.specs.Ranks.{rank}
 use Rattle.words.proofs.Lists.{all-same}
-use Rattle.roads.specs.Map.{Map}
-use Rattle.parts.specs.Tree.{isLeaf}
+use Rattle.roads.specs.Map.{Map, partCount}
+use Rattle.parts.specs.Tree.{leafOf, isLeaf}
+use Rattle.maps.proofs.Distances.{sound-tree}
 use Rattle.parts.proofs.Gates.{no-first-child, some-first-child}
 use Rattle.counts.specs.declared.Counts.{Counts}
 use Rattle.fleet.specs.State.{State}
 use Rattle.fleet.specs.Question.{Listed, nearest}
 use Rattle.places.specs.Place.{countsIn, vertexAt}
-use Rattle.best_list.specs.declared.BestList.{BestList}
-use Rattle.best_list.specs.Best.{entries, limitOf, offeredAll}
-use Rattle.van_offers.specs.Offers.{stampIn, leafOffers}
+use Rattle.best_list.specs.Best.{entries, limitOf, offeredAll, InOrder}
+use Rattle.van_offers.specs.Offers.{stampIn, rowOffers}
 use Rattle.far_sums.specs.Least.{Least}
-use Rattle.part_bounds.specs.Bounds.{partWord, rowsIn, showsOwn, lowered, Relaxed, OpenedUp, outOf, keyAt, farCount}
+use Rattle.part_bounds.specs.Bounds.{partWord, rowsIn, showsOwn, Fits, ownRows, Alone, lowered, Relaxed, OpenedUp, outOf, Nearest, farCount}
 use Rattle.part_bounds.proofs.Spreading.{far-lowered, far-most}
+use Rattle.part_bounds.proofs.Keys.{nearest-all}
 use Rattle.question.specs.declared.Search.{Search}
-use Rattle.van_offers.specs.Genuine.{Genuine, listIn}
-use Rattle.question.specs.Kept.{LeafTaken, BoundOutside, Searching, Shrunk, GoesOn, Fresh, leafIn, closeBy}
-use Rattle.question.proofs.Shown.{parent-read, child-read, leaf-read}
-use Rattle.question.proofs.Turns.{fewer, climbed, part-taken}
-use Rattle.question.proofs.Ends.{FirstLook, leaf-again, leaf-taken, stopped, limit-near, started}
+use Rattle.van_offers.specs.Genuine.{Genuine, listOf}
+use Rattle.question.specs.Kept.{LeafRelaxed, offersOf, LeafTaken, OwnTaken, BoundOutside, Searching, Stands, Climbs, Goes, GoesOn, Fresh, leafIn, closeBy}
+use Rattle.question.proofs.Shown.{parent-read, child-read, leaf-read, part-fits}
+use Rattle.question.proofs.Turns.{climbed, part-taken}
+use Rattle.question.proofs.Ends.{leaf-taken, stopped, limit-near, own-row, alone, started}
 
-module _ (mem : List ℕ) (leaf : ℕ) (all : Bool) (dx marks : List ℕ) (best : BestList) (k : ℕ) {p mark : ℕ} (isPart : p ≡ leaf) (isMark : mark ≡ word marks p) where
-  mark-is : mark ≡ word marks leaf
-  mark-is = isMark ∙ ap (word marks) isPart
+-- What the listed rows of a leaf offered, under the names of the leaf's words.
+module _ (mem : List ℕ) (leaf k : ℕ) (dx′ : List ℕ) (list list′ : Counts → List Listed) where
+  abbrev Offered : Counts → ℕ → List ℕ → Type 0
+  Offered counts first rows = list′ counts ≡ offeredAll k (list counts) (rowOffers mem counts first dx′ rows)
 
-  pub leaf-left : mark ≡ 1 → best .len ≤ k → LeafTaken mem leaf all dx marks best k dx marks best
-  leaf-left one few = record { few = few; again = λ e. (refl, refl, refl); first = λ fresh. absurd (fresh (sym mark-is ∙ one)) }
+  offered-named : {p shown first : ℕ} {counts : Counts} {rows : List ℕ} → p ≡ leaf → shown ≡ partWord mem p 2 → first ≡ shown → counts ≡ countsIn mem → rows ≡ ownRows mem p → Offered counts first rows
+      → list′ (countsIn mem) ≡ offeredAll k (list (countsIn mem)) (offersOf mem leaf dx′)
+  offered-named {first = first} {counts} {rows} isPart isShown isFirst isCounts isRows offered =
+      subst (λ (c : Counts). Offered c (partWord mem leaf 2) (ownRows mem leaf)) isCounts
+      (subst (λ (f : ℕ). Offered counts f (ownRows mem leaf)) (isFirst ∙ isShown ∙ ap (λ (q : ℕ). partWord mem q 2) isPart)
+      (subst (Offered counts first) (isRows ∙ ap (ownRows mem) isPart) offered))
 
-  -- the entries that the best hold now are those that the leaf's rows offered
-  abbrev Offered : Counts → ℕ → ℕ → List ℕ → BestList → Type 0
-  Offered counts first size dx′ best′ =
-      entries (stampIn mem counts) (best′ .fars) (best′ .vans) (best′ .len)
-      ≡ offeredAll k (entries (stampIn mem counts) (best .fars) (best .vans) (best .len)) (leafOffers mem counts first dx′ size 0)
+-- the entries of two arrays, with the stamps that a memory shows
+abbrev listBy : List ℕ → List ℕ → List ℕ → ℕ → Counts → List Listed
+listBy mem fars vans len counts = entries (stampIn mem counts) fars vans len
 
-  pub leaf-looked : {dx′ marks′ : List ℕ} {size shown first : ℕ} {counts : Counts} {best′ : BestList} → mark ≢ 1 → Relaxed mem p all dx dx′ → marks′ ≡ set marks p 1 → size ≡ rowsIn mem p
-      → shown ≡ partWord mem p 2 → first ≡ shown → counts ≡ countsIn mem → best′ .len ≤ k → Offered counts first size dx′ best′ → LeafTaken mem leaf all dx marks best k dx′ marks′ best′
-  leaf-looked {dx′} {marks′} {size} {shown} {first} {counts} {best′} other relaxed isMarks isSize isShown isFirst isCounts few offered =
-      record {
-        few = few;
-        again = λ e. absurd (other (mark-is ∙ e));
-        first = λ fresh. (
-          subst (λ (q : ℕ). Relaxed mem q all dx dx′) isPart relaxed,
-          isMarks ∙ ap (λ (q : ℕ). set marks q 1) isPart,
-          subst (λ (c : Counts). Offered c (partWord mem leaf 2) (rowsIn mem leaf) dx′ best′) isCounts
-              (subst (λ (f : ℕ). Offered counts f (rowsIn mem leaf) dx′ best′) (isFirst ∙ isShown ∙ ap (λ (q : ℕ). partWord mem q 2) isPart)
-              (subst (λ (z : ℕ). Offered counts first z dx′ best′) (isSize ∙ ap (rowsIn mem) isPart) offered)),
-        );
-      }
+-- a waiting leaf
+pub leaf-looked : (mem : List ℕ) (leaf : ℕ) (dx fars vans : List ℕ) (len k : ℕ) {p : ℕ} {dx′ fars′ vans′ rows : List ℕ} {len′ shown first : ℕ} {counts : Counts} → p ≡ leaf
+    → (Fits mem p → LeafRelaxed mem p dx dx′ × (rows ≡ ownRows mem p)) → shown ≡ partWord mem p 2 → first ≡ shown → counts ≡ countsIn mem → len′ ≤ k → InOrder fars′ vans′ len′
+    → Offered mem leaf k dx′ (listBy mem fars vans len) (listBy mem fars′ vans′ len′) counts first rows → LeafTaken mem leaf dx fars vans len k dx′ fars′ vans′ len′
+leaf-looked mem leaf dx fars vans len k {dx′ = dx′} {fars′} {vans′} {len′ = len′} isPart relaxed isShown isFirst isCounts few ordered offered =
+    record {
+      few = few;
+      ordered = ordered;
+      looks = λ fits.
+          let (closer, isRows) = relaxed (subst⁻¹ (Fits mem) isPart fits) in (
+            subst (λ (q : ℕ). LeafRelaxed mem q dx dx′) isPart closer,
+            offered-named mem leaf k dx′ (listBy mem fars vans len) (listBy mem fars′ vans′ len′) isPart isShown isFirst isCounts isRows offered,
+          );
+    }
+
+nothing : (stampOf : ℕ → ℕ) (fars vans : List ℕ) (n : ℕ) → n ≡ 0 → entries stampOf fars vans n ≡ []
+unfolding entries
+nothing stampOf fars vans zero e = refl
+nothing stampOf fars vans (suc n) e = absurd (omega arith)
+
+-- the leaf of the vertex asked at
+pub own-looked : (mem : List ℕ) (leaf place : ℕ) (dx fars vans : List ℕ) (k : ℕ) {p at : ℕ} {dx′ fars′ vans′ rows : List ℕ} {len′ shown first : ℕ} {counts : Counts} → p ≡ leaf → at ≡ place
+    → (Fits mem p → at < rowsIn mem p → (Alone mem (partWord mem p 2) (rowsIn mem p) dx at → Relaxed mem p true dx dx′) × (rows ≡ ownRows mem p)) → shown ≡ partWord mem p 2
+    → first ≡ shown → counts ≡ countsIn mem → len′ ≤ k → InOrder fars′ vans′ len′ → Offered mem leaf k dx′ (listBy mem fars vans 0) (listBy mem fars′ vans′ len′) counts first rows
+    → OwnTaken mem leaf place dx k dx′ fars′ vans′ len′
+own-looked mem leaf place dx fars vans k {p} {at} {dx′} {fars′} {vans′} {len′ = len′} isPart isAt relaxed isShown isFirst isCounts few ordered offered =
+    record {
+      few = few;
+      ordered = ordered;
+      looks = λ fits row.
+          let (closer, isRows) = relaxed (subst⁻¹ (Fits mem) isPart fits) (omega (arith, row, isAt, ap (rowsIn mem) isPart)) in (
+            subst (λ (i : ℕ). Alone mem (partWord mem leaf 2) (rowsIn mem leaf) dx i → Relaxed mem leaf true dx dx′) isAt
+                (subst (λ (q : ℕ). Alone mem (partWord mem q 2) (rowsIn mem q) dx at → Relaxed mem q true dx dx′) isPart closer),
+            offered-named mem leaf k dx′ (listBy mem fars vans 0) (listBy mem fars′ vans′ len′) isPart isShown isFirst isCounts isRows offered
+                ∙ ap (λ (l : List Listed). offeredAll k l (offersOf mem leaf dx′)) (nothing (stampIn mem (countsIn mem)) fars vans 0 refl),
+          );
+    }
 
 -- when a search around x comes first
-pub close-is : (mem : List ℕ) (x k : ℕ) {counts : Counts} {shown leaf size start first active : ℕ} → counts ≡ countsIn mem → shown ≡ word mem (vertexAt counts x + 0) → leaf ≡ shown → size ≡ rowsIn mem leaf
-    → start ≡ partWord mem leaf 2 → first ≡ start → active ≡ rank (showsOwn mem first) size → leb (k * size) (64 * active) ≡ closeBy mem x k
+pub close-many : (mem : List ℕ) (x k : ℕ) → 2 < k → false ≡ closeBy mem x k
 unfolding closeBy
-close-is mem x k {leaf = leaf} {size} {first = first} isCounts isShown isLeaf isSize isStart isFirst isActive =
+close-many mem x k many = rw (lt-leb k 2 many) refl
+
+pub close-is : (mem : List ℕ) (x k : ℕ) {counts : Counts} {shown leaf size start first active : ℕ} → k ≤ 2 → counts ≡ countsIn mem → shown ≡ word mem (vertexAt counts x + 0) → leaf ≡ shown → size ≡ rowsIn mem leaf
+    → start ≡ partWord mem leaf 2 → first ≡ start → active ≡ rank (showsOwn mem first) size → leb (k * size) (8 * active) ≡ closeBy mem x k
+unfolding closeBy
+close-is mem x k {leaf = leaf} {size} {first = first} few isCounts isShown isLeaf isSize isStart isFirst isActive =
     let leaf-is : leaf ≡ leafIn mem x = isLeaf ∙ isShown ∙ ap (λ (c : Counts). word mem (vertexAt c x + 0)) isCounts in
     let size-is : size ≡ rowsIn mem (leafIn mem x) = isSize ∙ ap (rowsIn mem) leaf-is in
     let first-is : first ≡ partWord mem (leafIn mem x) 2 = isFirst ∙ isStart ∙ ap (λ (q : ℕ). partWord mem q 2) leaf-is in
-    (λ i. leb (k * size-is i) (64 * (isActive ∙ (λ j. rank (showsOwn mem (first-is j)) (size-is j))) i))
+    rw (le-leb k 2 few) (λ i. leb (k * size-is i) (8 * (isActive ∙ (λ j. rank (showsOwn mem (first-is j)) (size-is j))) i))
 
 pub bound-root : (mem : List ℕ) (part : ℕ) (dx : List ℕ) → part ≡ 0 → BoundOutside mem part dx FAR
 bound-root mem part dx root = record { root = λ e. refl; other = λ real. absurd (real root) }
@@ -87,49 +118,40 @@ pub given-up : (waits : List ℕ) (at n : ℕ) {part last : ℕ} {waits′ : Lis
 given-up waits at n isPart isLast isWaits = (isPart, isWaits ∙ ap (set waits at) isLast)
 
 -- Climbing.
-module _ (mem : List ℕ) (k : ℕ) (dx keys waits : List ℕ) (st : Search) (few : st .best .len ≤ k) (total : farCount keys + st .waiting ≤ 512) (long : length waits ≡ 512)
-    {at above : ℕ} (isAt : at ≡ st .part) (isAbove : above ≡ partWord mem at 0) where
+module _ (mem dx keys waits : List ℕ) (st : Search) (total : farCount keys + st .waiting ≤ 512) {at above : ℕ} (isAt : at ≡ st .part) (isAbove : above ≡ partWord mem at 0) where
   above-is : above ≡ partWord mem (st .part) 0
   above-is = isAbove ∙ ap (λ (q : ℕ). partWord mem q 0) isAt
 
-  -- what a climb ensures
-  abbrev Climbs : List ℕ → List ℕ → List ℕ → Search → Type 0
-  Climbs dx′ keys′ waits′ st′ =
-      Shrunk k keys waits st keys′ waits′ st′
-      × ((m : Map) (fleet : State) (x : ℕ) (marks : List ℕ) → Genuine m fleet mem → x < m .vertices
-      → Searching m fleet x k dx keys marks waits (st .part) (st .out) (st .waiting) (listIn mem (st .best)) → st .out < FAR → GoesOn m fleet x k mem dx′ keys′ marks waits′ st′)
-
-  pub climb-stays : st .part ≤ above → Climbs dx keys waits (record { best = st .best; part = st .part; out = st .out; waiting = st .waiting; ended = true })
-  climb-stays none = (
-    record { few = few; waits-length = long; total = total; shrinks = λ e. absurd (true≢false e) },
-    λ m fleet x marks g hx s near.
-        let parent = g .sound .part (st .part) (s .is-part) .parent in
-        absurd (omega (arith, none, above-is, parent-read g (st .part) (s .is-part), parent (real m fleet x marks s near))),
-  )
+  pub climb-stays : st .part ≤ above
+      → Climbs mem dx keys waits st dx keys waits (record { len = st .len; part = st .part; out = st .out; waiting = st .waiting; from = st .waiting; ended = true })
+  climb-stays none =
+      record {
+        same-list = refl;
+        total = total;
+        shrinks = λ e. absurd (true≢false e);
+        climbs = λ m fleet x k marks found g hx s near.
+            let parent = g .sound .part (st .part) (s .is-part) .parent in
+            absurd (omega (arith, none, above-is, parent-read g (st .part) (s .is-part), parent (positive (st .part) (λ root. omega (arith, s .root-out root, near)))));
+      }
     where
-      real : (m : Map) (fleet : State) (x : ℕ) (marks : List ℕ) → Searching m fleet x k dx keys marks waits (st .part) (st .out) (st .waiting) (listIn mem (st .best)) → st .out < FAR → 0 < st .part
-      real m fleet x marks s near = positive (st .part) (λ root. omega (arith, s .root-out root, near))
-        where
-          positive : (n : ℕ) → (n ≡ 0 → ⊥) → 0 < n
-          positive n h = omega (arith, h)
+      positive : (n : ℕ) → (n ≡ 0 → ⊥) → 0 < n
+      positive n h = omega (arith, h)
 
-  pub climb-goes : {keyed : ℕ} {keys₁ dx′ keys′ waits′ : List ℕ} {n out : ℕ} → above < st .part → keyed ≡ st .part → keys₁ ≡ lowered keys keyed 0
-      → OpenedUp mem above true dx keys₁ waits (st .waiting) dx′ keys′ waits′ n → BoundOutside mem above dx′ out
-      → Climbs dx′ keys′ waits′ (record { best = st .best; part = above; out = out; waiting = n; ended = false })
-  climb-goes {keyed} {keys₁} {dx′} {keys′} {waits′} {n} {out} less isKeyed isKeys opened bound = (
-    record {
-      few = few;
-      waits-length = opened .1 .waits-length;
-      total = omega (arith, opened .1 .total, fewer, total);
-      shrinks = λ e. omega (arith, opened .1 .total, fewer, less);
-    },
-    λ m fleet x marks g hx s near. (
-      λ e. climbed g x hx s above (above-is ∙ parent-read g (st .part) (s .is-part)) (λ root. omega (arith, root, less))
-          (subst (λ (l : List ℕ). OpenedUp mem above true dx l waits (st .waiting) dx′ keys′ waits′ n) keys-are opened)
-          bound,
-      λ e. absurd (true≢false (sym e)),
-    ),
-  )
+  pub climb-goes : {keyed : ℕ} {keys₁ dx′ keys′ waits′ : List ℕ} {n out : ℕ} → above < st .part → keyed ≡ st .part → keys₁ ≡ lowered keys keyed 0 → farCount keys′ + n ≤ farCount keys₁ + st .waiting
+      → (Fits mem above → OpenedUp mem above true dx keys₁ waits (st .waiting) dx′ keys′ waits′ n) → BoundOutside mem above dx′ out
+      → Climbs mem dx keys waits st dx′ keys′ waits′ (record { len = st .len; part = above; out = out; waiting = n; from = n; ended = false })
+  climb-goes {keyed} {keys₁} {dx′} {keys′} {waits′} {n} {out} less isKeyed isKeys sum opened bound =
+      record {
+        same-list = refl;
+        total = omega (arith, sum, fewer, total);
+        shrinks = λ e. omega (arith, sum, fewer, less);
+        climbs = λ m fleet x k marks found g hx s near. (
+          refl,
+          climbed g x hx s above (above-is ∙ parent-read g (st .part) (s .is-part)) (λ root. omega (arith, root, less))
+              (subst (λ (l : List ℕ). OpenedUp mem above true dx l waits (st .waiting) dx′ keys′ waits′ n) keys-are (opened (part-fits g above (omega (arith, less, s .is-part)))))
+              bound,
+        );
+      }
     where
       keys-are : keys₁ ≡ lowered keys (st .part) 0
       keys-are = isKeys ∙ ap (λ (q : ℕ). lowered keys q 0) isKeyed
@@ -138,93 +160,99 @@ module _ (mem : List ℕ) (k : ℕ) (dx keys waits : List ℕ) (st : Search) (fe
       fewer = omega (arith, ap farCount isKeys, far-lowered keys keyed 0)
 
 -- Taking a waiting part, and a turn.
-module _ (mem : List ℕ) (k : ℕ) (dx keys marks waits : List ℕ) (st : Search) where
-  -- what a turn ensures
-  abbrev pub Goes : List ℕ → List ℕ → List ℕ → List ℕ → Search → Type 0
-  Goes dx′ keys′ marks′ waits′ st′ =
-      Shrunk k keys waits st keys′ waits′ st′
-      × ((m : Map) (fleet : State) (x : ℕ) → Genuine m fleet mem → x < m .vertices
-      → Searching m fleet x k dx keys marks waits (st .part) (st .out) (st .waiting) (listIn mem (st .best)) → GoesOn m fleet x k mem dx′ keys′ marks′ waits′ st′)
+module _ (mem : List ℕ) (k : ℕ) (dx keys waits fars vans : List ℕ) (st : Search) (so : Stands k keys fars vans st) where
+  module _ (at : ℕ) (h : at < st .waiting) {q wide child : ℕ} {waits₁ : List ℕ} (isPart : q ≡ word waits at) (isWaits : waits₁ ≡ set waits at (word waits (st .waiting - 1)))
+      (isWide : wide ≡ q) (isChild : child ≡ partWord mem wide 4) where
+    fits : length waits ≡ 512 → st .waiting ≤ length waits
+    fits long = omega (arith, so .total)
 
-  module _ (few : st .best .len ≤ k) (some : 1 ≤ k) (total : farCount keys + st .waiting ≤ 512) (long : length waits ≡ 512) where
-    module _ (at : ℕ) (h : at < st .waiting) {q wide child : ℕ} {waits₁ : List ℕ} (isPart : q ≡ word waits at) (isWaits : waits₁ ≡ set waits at (word waits (st .waiting - 1)))
-        (isWide : wide ≡ q) (isChild : child ≡ partWord mem wide 4) where
-      fits : st .waiting ≤ length waits
-      fits = omega (arith, long)
+    child-is : child ≡ partWord mem (word waits at) 4
+    child-is = isChild ∙ ap (λ (p : ℕ). partWord mem p 4) (isWide ∙ isPart)
 
-      child-is : child ≡ partWord mem (word waits at) 4
-      child-is = isChild ∙ ap (λ (p : ℕ). partWord mem p 4) (isWide ∙ isPart)
-
-      pub leaf-goes : {dx′ marks′ : List ℕ} {best′ : BestList} → child ≡ 0 → LeafTaken mem q false dx marks (st .best) k dx′ marks′ best′
-          → Goes dx′ keys marks′ waits₁ (record { best = best′; part = st .part; out = st .out; waiting = st .waiting - 1; ended = false })
-      leaf-goes {dx′} {marks′} {best′} none taken = (
+    pub leaf-goes : {dx′ fars′ vans′ : List ℕ} {len′ : ℕ} → child ≡ 0 → LeafTaken mem q dx fars vans (st .len) k dx′ fars′ vans′ len′
+        → Goes mem k dx keys waits fars vans st dx′ keys waits₁ fars′ vans′
+        (record { len = len′; part = st .part; out = st .out; waiting = st .waiting - 1; from = st .waiting - 1; ended = false })
+    leaf-goes {dx′} {fars′} {vans′} {len′} none taken =
         record {
-          few = taken .few;
-          waits-length = ap length isWaits ∙ length-set waits at (word waits (st .waiting - 1)) ∙ long;
-          total = omega (arith, total);
-          shrinks = λ e. omega (arith, h);
-        },
-        λ m fleet x g hx s. (
-          λ e. subst⁻¹ (λ (ws : List ℕ). Searching m fleet x k dx′ keys marks′ ws (st .part) (st .out) (st .waiting - 1) (listIn mem best′)) isWaits (leaf-searching m fleet x g hx s),
-          λ e. absurd (true≢false (sym e)),
-        ),
-      )
-        where
-          look : LeafTaken mem (word waits at) false dx marks (st .best) k dx′ marks′ best′
-          look = subst (λ (p : ℕ). LeafTaken mem p false dx marks (st .best) k dx′ marks′ best′) isPart taken
+          shrunk = record {
+            few = taken .few;
+            ordered = taken .ordered;
+            total = omega (arith, so .total);
+            shrinks = λ e. omega (arith, h);
+          };
+          on = λ m fleet x marks g hx s. (
+            λ e. (
+              set marks (word waits at) 1,
+              subst⁻¹ (λ (ws : List ℕ). Searching m fleet x k dx′ keys (set marks (word waits at) 1) ws (st .part) (st .out) (st .waiting - 1) (listOf mem fars′ vans′ len′)) isWaits
+                  (leaf-searching m fleet x marks g hx s),
+            ),
+            λ e. absurd (true≢false (sym e)),
+          );
+        }
+      where
+        look : LeafTaken mem (word waits at) dx fars vans (st .len) k dx′ fars′ vans′ len′
+        look = subst (λ (p : ℕ). LeafTaken mem p dx fars vans (st .len) k dx′ fars′ vans′ len′) isPart taken
 
-          leaf-searching : (m : Map) (fleet : State) (x : ℕ) → Genuine m fleet mem → x < m .vertices
-              → Searching m fleet x k dx keys marks waits (st .part) (st .out) (st .waiting) (listIn mem (st .best))
-              → Searching m fleet x k dx′ keys marks′ (fewer waits at (st .waiting) h fits) (st .part) (st .out) (st .waiting - 1) (listIn mem best′)
-          leaf-searching m fleet x g hx s = by (ℕ-discrete (word marks (word waits at)) 1)
-            where
-              leaf : isLeaf m (word waits at) ≡ true
-              leaf = no-first-child m (word waits at) (sym (child-read g (word waits at) (s .waiting at h .is-part)) ∙ sym child-is ∙ none)
+        leaf-searching : (m : Map) (fleet : State) (x : ℕ) (marks : List ℕ) → Genuine m fleet mem → x < m .vertices
+            → Searching m fleet x k dx keys marks waits (st .part) (st .out) (st .waiting) (listOf mem fars vans (st .len))
+            → Searching m fleet x k dx′ keys (set marks (word waits at) 1) (set waits at (word waits (st .waiting - 1))) (st .part) (st .out) (st .waiting - 1) (listOf mem fars′ vans′ len′)
+        leaf-searching m fleet x marks g hx s =
+            let hq : word waits at < partCount m = s .waiting at h .is-part in
+            let leaf : isLeaf m (word waits at) ≡ true = no-first-child m (word waits at) (sym (child-read g (word waits at) hq) ∙ sym child-is ∙ none) in
+            let (relaxed, found) = look .looks (part-fits g (word waits at) hq) in
+            leaf-taken g x hx k (so .some) s at h (fits (s .waits-length)) leaf relaxed found
 
-              by : Dec (word marks (word waits at) ≡ 1)
-                  → Searching m fleet x k dx′ keys marks′ (fewer waits at (st .waiting) h fits) (st .part) (st .out) (st .waiting - 1) (listIn mem best′)
-              by (no fresh) =
-                  let (relaxed, isMarks, found) = look .first fresh in
-                  leaf-taken g x hx k some s at h fits leaf fresh (record { relaxed = relaxed; marks-are = isMarks; found-are = found })
-              by (yes marked) =
-                  let (same-dx, same-marks, same-best) = look .again marked in
-                  subst⁻¹ (λ (b : BestList). Searching m fleet x k dx′ keys marks′ (fewer waits at (st .waiting) h fits) (st .part) (st .out) (st .waiting - 1) (listIn mem b)) same-best
-                  (subst⁻¹ (λ (ms : List ℕ). Searching m fleet x k dx′ keys ms (fewer waits at (st .waiting) h fits) (st .part) (st .out) (st .waiting - 1) (listIn mem (st .best))) same-marks
-                  (subst⁻¹ (λ (ds : List ℕ). Searching m fleet x k ds keys marks (fewer waits at (st .waiting) h fits) (st .part) (st .out) (st .waiting - 1) (listIn mem (st .best))) same-dx
-                  (leaf-again g x hx k some s at h fits leaf marked)))
-
-      pub part-goes : {dx′ keys′ waits′ : List ℕ} {n′ : ℕ} → child ≢ 0 → OpenedUp mem q false dx keys waits₁ (st .waiting - 1) dx′ keys′ waits′ n′
-          → Goes dx′ keys′ marks waits′ (record { best = st .best; part = st .part; out = st .out; waiting = n′; ended = false })
-      part-goes {dx′} {keys′} {waits′} {n′} real opened = (
+    pub part-goes : {dx′ keys′ waits′ : List ℕ} {n′ : ℕ} → child ≢ 0 → farCount keys′ + n′ ≤ farCount keys + (st .waiting - 1)
+        → (Fits mem q → OpenedUp mem q false dx keys waits₁ (st .waiting - 1) dx′ keys′ waits′ n′)
+        → Goes mem k dx keys waits fars vans st dx′ keys′ waits′ fars vans
+        (record { len = st .len; part = st .part; out = st .out; waiting = n′; from = st .waiting - 1; ended = false })
+    part-goes {dx′} {keys′} {waits′} {n′} real sum opened =
         record {
-          few = few;
-          waits-length = opened .1 .waits-length;
-          total = omega (arith, opened .1 .total, total);
-          shrinks = λ e. omega (arith, opened .1 .total, h);
-        },
-        λ m fleet x g hx s. (
-          λ e.
-              part-taken g x hx s at h fits
-              (some-first-child m (word waits at) (λ zero′. real (child-is ∙ child-read g (word waits at) (s .waiting at h .is-part) ∙ zero′)))
-              (subst (λ (p : ℕ). OpenedUp mem p false dx keys (fewer waits at (st .waiting) h fits) (st .waiting - 1) dx′ keys′ waits′ n′) isPart
-              (subst (λ (ws : List ℕ). OpenedUp mem q false dx keys ws (st .waiting - 1) dx′ keys′ waits′ n′) isWaits opened)),
-          λ e. absurd (true≢false (sym e)),
-        ),
-      )
+          shrunk = record {
+            few = so .few;
+            ordered = so .ordered;
+            total = omega (arith, sum, so .total);
+            shrinks = λ e. omega (arith, sum, h);
+          };
+          on = λ m fleet x marks g hx s. (
+            λ e. (
+              marks,
+              part-taken g x hx s at h (fits (s .waits-length))
+                  (some-first-child m (word waits at) (λ zero′. real (child-is ∙ child-read g (word waits at) (s .waiting at h .is-part) ∙ zero′)))
+                  (subst (λ (p : ℕ). Fits mem p → OpenedUp mem p false dx keys (set waits at (word waits (st .waiting - 1))) (st .waiting - 1) dx′ keys′ waits′ n′) isPart
+                  (subst (λ (ws : List ℕ). Fits mem q → OpenedUp mem q false dx keys ws (st .waiting - 1) dx′ keys′ waits′ n′) isWaits opened)
+                  (part-fits g (word waits at) (s .waiting at h .is-part))),
+            ),
+            λ e. absurd (true≢false (sym e)),
+          );
+        }
 
-    -- the search ends
-    module _ {key limit least : ℕ} (isKey : Least (keyAt keys waits) (st .waiting) key) (isLimit : limit ≡ limitOf k (listIn mem (st .best))) (isLeast : least ≡ min (st .out) key) where
-      pub turn-ends : limit < least → Goes dx keys marks waits (record { best = st .best; part = st .part; out = st .out; waiting = st .waiting; ended = true })
-      turn-ends beyond = (
-        record { few = few; waits-length = long; total = total; shrinks = λ e. absurd (true≢false e) },
-        λ m fleet x g hx s. (λ e. absurd (true≢false e), λ e. stopped g x hx k some s key isKey (omega arith) (omega arith)),
-      )
+  -- the search ends, or climbs
+  module _ {key limit least place : ℕ} (isKey : Nearest keys waits 0 (st .waiting) key place) (isLimit : limit ≡ limitOf k (listOf mem fars vans (st .len))) (isLeast : least ≡ min (st .out) key) where
+    pub turn-ends : limit < least
+        → Goes mem k dx keys waits fars vans st dx keys waits fars vans (record { len = st .len; part = st .part; out = st .out; waiting = st .waiting; from = st .waiting; ended = true })
+    turn-ends beyond =
+        record {
+          shrunk = record { few = so .few; ordered = so .ordered; total = so .total; shrinks = λ e. absurd (true≢false e) };
+          on = λ m fleet x marks g hx s. (λ e. absurd (true≢false e), λ e. stopped g x hx k (so .some) s key (nearest-all isKey) (omega arith) (omega arith));
+        }
 
-      pub turn-climbs : {dx′ keys′ waits′ : List ℕ} {st′ : Search} → least ≤ limit → st .out ≤ key
-          → Shrunk k keys waits st keys′ waits′ st′ × ((m : Map) (fleet : State) (x : ℕ) (ms : List ℕ) → Genuine m fleet mem → x < m .vertices
-          → Searching m fleet x k dx keys ms waits (st .part) (st .out) (st .waiting) (listIn mem (st .best)) → st .out < FAR → GoesOn m fleet x k mem dx′ keys′ ms waits′ st′)
-          → Goes dx′ keys′ marks waits′ st′
-      turn-climbs within nearer climbs = (climbs .0, λ m fleet x g hx s. climbs .1 m fleet x marks g hx s (omega (arith, limit-near g x hx k some s)))
+    pub turn-climbs : {dx′ keys′ waits′ : List ℕ} {st′ : Search} → least ≤ limit → st .out ≤ key → Climbs mem dx keys waits st dx′ keys′ waits′ st′
+        → Goes mem k dx keys waits fars vans st dx′ keys′ waits′ fars vans st′
+    turn-climbs {dx′} {keys′} {waits′} {st′} within nearer up =
+        record {
+          shrunk = record {
+            few = omega (arith, up .same-list, so .few);
+            ordered = subst⁻¹ (InOrder fars vans) (up .same-list) (so .ordered);
+            total = up .total;
+            shrinks = up .shrinks;
+          };
+          on = λ m fleet x marks g hx s.
+              let (on, searching) = up .climbs m fleet x k marks (listOf mem fars vans (st .len)) g hx s (omega (arith, limit-near g x hx k (so .some) s)) in (
+                λ e. (marks, subst⁻¹ (λ (n : ℕ). Searching m fleet x k dx′ keys′ marks waits′ (st′ .part) (st′ .out) (st′ .waiting) (listOf mem fars vans n)) (up .same-list) searching),
+                λ e. absurd (true≢false (sym e ∙ on)),
+              );
+        }
 
 -- how much is left to do
 abbrev pub leftOf : Bool → ℕ → ℕ
@@ -237,65 +265,70 @@ less-left false true n n′ on less = omega arith
 less-left false false n n′ on less = omega (arith, less refl)
 
 -- the turns so far, and one more
-pub on-and-on : (mem : List ℕ) (k : ℕ) (dx₀ keys₀ marks₀ waits₀ : List ℕ) (st₀ : Search) (dx keys marks waits : List ℕ) (st : Search) (dx′ keys′ marks′ waits′ : List ℕ) (st′ : Search) → st .ended ≡ false
-    → ((m : Map) (fleet : State) (x : ℕ) → Genuine m fleet mem → x < m .vertices → GoesOn m fleet x k mem dx₀ keys₀ marks₀ waits₀ st₀ → GoesOn m fleet x k mem dx keys marks waits st)
-    → Goes mem k dx keys marks waits st dx′ keys′ marks′ waits′ st′
-    → (m : Map) (fleet : State) (x : ℕ) → Genuine m fleet mem → x < m .vertices → GoesOn m fleet x k mem dx₀ keys₀ marks₀ waits₀ st₀ → GoesOn m fleet x k mem dx′ keys′ marks′ waits′ st′
-on-and-on mem k dx₀ keys₀ marks₀ waits₀ st₀ dx keys marks waits st dx′ keys′ marks′ waits′ st′ on so-far goes m fleet x g hx start =
-    goes .1 m fleet x g hx (so-far m fleet x g hx start .0 on)
+pub on-and-on : (mem : List ℕ) (k : ℕ) (dx₀ keys₀ waits₀ fars₀ vans₀ : List ℕ) (st₀ : Search) (dx keys waits fars vans : List ℕ) (st : Search) (dx′ keys′ waits′ fars′ vans′ : List ℕ)
+    (st′ : Search) → st .ended ≡ false
+    → ((m : Map) (fleet : State) (x : ℕ) → Genuine m fleet mem → x < m .vertices → GoesOn m fleet x k mem dx₀ keys₀ waits₀ fars₀ vans₀ st₀ → GoesOn m fleet x k mem dx keys waits fars vans st)
+    → Goes mem k dx keys waits fars vans st dx′ keys′ waits′ fars′ vans′ st′
+    → (m : Map) (fleet : State) (x : ℕ) → Genuine m fleet mem → x < m .vertices → GoesOn m fleet x k mem dx₀ keys₀ waits₀ fars₀ vans₀ st₀
+    → GoesOn m fleet x k mem dx′ keys′ waits′ fars′ vans′ st′
+on-and-on mem k dx₀ keys₀ waits₀ fars₀ vans₀ st₀ dx keys waits fars vans st dx′ keys′ waits′ fars′ vans′ st′ on so-far goes m fleet x g hx start =
+    let (marks, searching) = so-far m fleet x g hx start .0 on in
+    goes .on m fleet x marks g hx searching
 
-nothing : (stampOf : ℕ → ℕ) (fars vans : List ℕ) (n : ℕ) → n ≡ 0 → entries stampOf fars vans n ≡ []
-unfolding entries
-nothing stampOf fars vans zero e = refl
-nothing stampOf fars vans (suc n) e = absurd (omega arith)
+-- and so it stands before the next
+pub stands-still : {mem : List ℕ} {k : ℕ} {dx keys waits fars vans : List ℕ} {st : Search} {dx′ keys′ waits′ fars′ vans′ : List ℕ} {st′ : Search} → Stands k keys fars vans st
+    → Goes mem k dx keys waits fars vans st dx′ keys′ waits′ fars′ vans′ st′ → Stands k keys′ fars′ vans′ st′
+stands-still so goes =
+    record { few = goes .shrunk .few; some = so .some; most = so .most; ordered = goes .shrunk .ordered; total = goes .shrunk .total }
 
 -- The start.
-pub record Begun (k : ℕ) (keys waits : List ℕ) (best : BestList) : Type 0 where
-  pub few : best .len ≤ k
-  pub total : farCount keys + 0 ≤ 512
-  pub long : length waits ≡ 512
-
-module _ (mem : List ℕ) (x k : ℕ) (dx keys marks waits : List ℕ) (fresh : Fresh dx keys marks waits) {counts : Counts} {leaf at : ℕ} {dx₁ dx′ marks′ keys′ : List ℕ} {empty best : BestList} {keyed : ℕ}
-    (isCounts : counts ≡ countsIn mem) (isLeaf′ : leaf ≡ word mem (vertexAt counts x + 0)) (isAt : at ≡ x) (isStart : dx₁ ≡ set dx at 0) (isEmpty : empty .len ≡ 0)
-    (taken : LeafTaken mem leaf true dx₁ marks empty k dx′ marks′ best) (isKeyed : keyed ≡ leaf) (isKeys : keys′ ≡ lowered keys keyed 0) where
-  pub begun : Begun k keys′ waits best
-  begun =
+module _ (mem : List ℕ) (x k : ℕ) (dx keys waits : List ℕ) (some : 1 ≤ k) (most : k ≤ 32) (fresh : Fresh dx keys waits) {counts : Counts} {leaf place at : ℕ} {dx₁ dx′ keys′ fars vans : List ℕ}
+    {len keyed : ℕ} (isCounts : counts ≡ countsIn mem) (isLeaf′ : leaf ≡ word mem (vertexAt counts x + 0)) (isPlace : place ≡ word mem (vertexAt counts x + 1)) (isAt : at ≡ x) (isStart : dx₁ ≡ set dx at 0)
+    (taken : OwnTaken mem leaf place dx₁ k dx′ fars vans len) (isKeyed : keyed ≡ leaf) (isKeys : keys′ ≡ lowered keys keyed 0) where
+  pub begun : (out : ℕ) → Stands k keys′ fars vans (record { len = len; part = leaf; out = out; waiting = 0; from = 0; ended = false })
+  begun out =
       record {
         few = taken .few;
+        some = some;
+        most = most;
+        ordered = taken .ordered;
         total = omega (arith, ap farCount isKeys, far-lowered keys keyed 0, far-most keys, fresh .keys-length);
-        long = fresh .waits-length;
       }
 
-  pub begins : {out : ℕ} → 1 ≤ k → BoundOutside mem leaf dx′ out → (m : Map) (fleet : State) → Genuine m fleet mem → x < m .vertices
-      → GoesOn m fleet x k mem dx′ keys′ marks′ waits (record { best = best; part = leaf; out = out; waiting = 0; ended = false })
-  begins some bound m fleet g hx = (
-    λ e.
-        started g x hx k some dx keys marks waits (fresh .no-distance) (fresh .dx-length) (isStart ∙ ap (λ (i : ℕ). set dx i 0) isAt) (fresh .no-key) (fresh .keys-length) (fresh .no-mark)
-        (fresh .marks-length) leaf (isLeaf′ ∙ ap (λ (c : Counts). word mem (vertexAt c x + 0)) isCounts ∙ leaf-read g x hx) look (isKeys ∙ ap (λ (q : ℕ). lowered keys q 0) isKeyed) bound,
+  pub begins : {out : ℕ} → BoundOutside mem leaf dx′ out → (m : Map) (fleet : State) → Genuine m fleet mem → m .vertices ≤ length dx → x < m .vertices
+      → GoesOn m fleet x k mem dx′ keys′ waits fars vans (record { len = len; part = leaf; out = out; waiting = 0; from = 0; ended = false })
+  begins bound m fleet g room hx = (
+    λ e. (
+      set (replicate 512 0) leaf 1,
+      started g x hx k some dx (fresh .no-distance) room start-is leaf leaf-is
+          (looks .0 (alone g x hx k some dx (fresh .no-distance) room start-is leaf leaf-is place place-is))
+          keys (replicate 512 0) waits (fresh .no-key) (fresh .keys-length) (λ q. all-same 512 q 0) (length-replicate {A = ℕ} 512 0) (fresh .waits-length) (looks .1)
+          (isKeys ∙ ap (λ (q : ℕ). lowered keys q 0) isKeyed) bound,
+    ),
     λ e. absurd (true≢false (sym e)),
   )
     where
-      none : listIn mem empty ≡ []
-      none = nothing (stampIn mem (countsIn mem)) (empty .fars) (empty .vans) (empty .len) isEmpty
+      start-is : dx₁ ≡ set dx x 0
+      start-is = isStart ∙ ap (λ (i : ℕ). set dx i 0) isAt
 
-      look : FirstLook mem leaf true dx₁ marks [] k dx′ marks′ (listIn mem best)
-      look =
-          let (relaxed, isMarks, found) = taken .first (λ e. omega (arith, e, fresh .no-mark leaf)) in
-          record {
-            relaxed = relaxed;
-            marks-are = isMarks;
-            found-are = found ∙ ap (λ (l : List Listed). offeredAll k l (leafOffers mem (countsIn mem) (partWord mem leaf 2) dx′ (rowsIn mem leaf) 0)) none;
-          }
+      leaf-is : leaf ≡ leafOf m x
+      leaf-is = isLeaf′ ∙ ap (λ (c : Counts). word mem (vertexAt c x + 0)) isCounts ∙ leaf-read g x hx
+
+      place-is : place ≡ word mem (vertexAt (countsIn mem) x + 1)
+      place-is = isPlace ∙ ap (λ (c : Counts). word mem (vertexAt c x + 1)) isCounts
+
+      looks : (Alone mem (partWord mem leaf 2) (rowsIn mem leaf) dx₁ place → Relaxed mem leaf true dx₁ dx′) × (listOf mem fars vans len ≡ offeredAll k [] (offersOf mem leaf dx′))
+      looks = taken .looks (part-fits g leaf (omega (arith, leaf-is, sound-tree m (g .sound) .leaf-part x hx))) (own-row g x hx k some dx (fresh .no-distance) room start-is leaf leaf-is place place-is)
 
 -- arrays as they are made
-pub fresh-arrays : Fresh (replicate 4096 FAR) (replicate 512 FAR) (replicate 512 0) (replicate 512 0)
-fresh-arrays =
+pub far-array : (n v : ℕ) → v < length (replicate {A = ℕ} n FAR) → word (replicate n FAR) v ≡ FAR
+far-array n v h = getD-replicate n v FAR 0 (omega (arith, length-replicate {A = ℕ} n FAR))
+
+pub fresh-arrays : {dx : List ℕ} → ((v : ℕ) → v < length dx → word dx v ≡ FAR) → Fresh dx (replicate 512 FAR) (replicate 512 0)
+fresh-arrays none =
     record {
-      dx-length = length-replicate {A = ℕ} 4096 FAR;
-      no-distance = λ v h. getD-replicate 4096 v FAR 0 h;
+      no-distance = none;
       keys-length = length-replicate {A = ℕ} 512 FAR;
       no-key = λ q h. getD-replicate 512 q FAR 0 h;
-      marks-length = length-replicate {A = ℕ} 512 0;
-      no-mark = λ q. all-same 512 q 0;
       waits-length = length-replicate {A = ℕ} 512 0;
     }

@@ -1,19 +1,18 @@
--- Distances made less at a part's rows are the distances to x: in the leaf of x, in the parent of a part that holds x and whose boundary has its distances, and, for the rows
--- below which something is shown, in a part outside of which x stands and whose boundary has them where an active vertex arrives.
+-- Distances made less at the rows of a part that are asked for are the distances to x: in the leaf of x, in the parent of a part that holds x and whose boundary has its distances, and,
+-- for rows at which an active vertex arrives, in a part outside of which x stands and whose boundary has them where one arrives.
 -- Assumes nothing.
 use mathlib.Core.Path.{_≡_, refl, sym, ap, subst, subst⁻¹, _∙_}
 use mathlib.Core.Logic.{_⊎_, inl, inr, ⊎-elim, _≢_}
-use mathlib.Core.Bool.{Bool, true, false, cond, _&&_, _||_, true≢false}
+use mathlib.Core.Bool.{true, false, cond}
 use mathlib.Core.List.{List, List·Memᴰ}
 use Prim.Native.Nat.{ℕ, _+_, _*_, _≤_, _<_}
 use native.Mathlib.Decide.{decLt, ℕ-discrete}
 use native.Mathlib.Omega.{arith}
-use lib.Dec.{leb, ltb}
-use borrow.Author.Tests.{le-leb, lt-ltb, le-ltb, ltb-true}
+use lib.Dec.{ltb}
+use borrow.Author.Tests.{lt-ltb, le-ltb}
 use Rattle.words.specs.Limits.{FAR}
-use Rattle.words.specs.Lists.{word, placeIn}
-use Rattle.words.proofs.Tests.{true-or-false, both-true, one-true, both-pass, left-true, right-true}
-use Rattle.words.proofs.Places.{place-of-entry}
+use Rattle.words.specs.Lists.{word}
+use Rattle.words.proofs.Tests.{true-or-false}
 use Rattle.roads.specs.Map.{Map, partCount}
 use Rattle.roads.specs.Dist.{dist}
 use Rattle.roads.proofs.Trail.{Net}
@@ -22,7 +21,7 @@ use Rattle.parts.specs.Tree.{leafOf, holds, children, isLeaf}
 use Rattle.parts.specs.Border.{boundary, borders}
 use Rattle.parts.specs.Size.{rowVertices, sizeOf}
 use Rattle.parts.proofs.Cross.{enters-through, leaves-through}
-use Rattle.parts.proofs.Rows.{row-vertex, rows-unique}
+use Rattle.parts.proofs.Rows.{row-vertex}
 use Rattle.parts.proofs.Down.{Tree, boundary-row, borders-says, vertices-has}
 use Rattle.parts.proofs.Gates.{rows-leaf, rows-inner, row-held, boundary-border}
 use Rattle.maps.proofs.Distances.{sound-net, sound-tree}
@@ -30,11 +29,12 @@ use Rattle.rows.specs.Row.{rowOf, Arrives}
 use Rattle.rows.proofs.Bounds.{row-bound}
 use Rattle.fleet.specs.State.{State, active}
 use Rattle.image.specs.Records.{rowVertex}
-use Rattle.part_bounds.specs.Bounds.{partWord, rowsIn, ownerAt, belowAt, nearAt, isAsked, Apart, Relaxed}
+use Rattle.part_bounds.specs.Bounds.{partWord, rowsIn, ownerAt, nearAt, Closer}
 use Rattle.van_offers.specs.Genuine.{Genuine}
-use Rattle.question.proofs.Shown.{rows-read, owner-read, entry-read, row-in, row-below, place-read, shown-arrives, arrives-further}
+use Rattle.question.proofs.Shown.{rows-read, owner-read, entry-read, row-in, row-below, place-read, one-row, arrives-further}
 
-module _ {m : Map} {s : State} {mem : List ℕ} (g : Genuine m s mem) (p : ℕ) (hp : p < partCount m) {all : Bool} {dx dx′ : List ℕ} (closer : Relaxed mem p all dx dx′) (x : ℕ) (hx : x < m .vertices) where
+module _ {m : Map} {s : State} {mem : List ℕ} (g : Genuine m s mem) (p : ℕ) (hp : p < partCount m) {Asked : ℕ → Type 0} {dx dx′ : List ℕ}
+    (closer : Closer mem (partWord mem p 2) (partWord mem p 3) (rowsIn mem p) dx Asked dx′) (of-part : (i : ℕ) → Asked i → i < rowsIn mem p) (x : ℕ) (hx : x < m .vertices) where
   net : Net m
   net = sound-net m (g .sound)
 
@@ -57,7 +57,7 @@ module _ {m : Map} {s : State} {mem : List ℕ} (g : Genuine m s mem) (p : ℕ) 
   row-size h = omega (arith, rows-read g p hp)
 
   pub still-honest : ((v : ℕ) → v < m .vertices → dist m v x ≤ word dx v) → (v : ℕ) → v < m .vertices → dist m v x ≤ word dx′ v
-  still-honest honest v hv = omega (arith, bound-is v hv, closer .honest bound most old (λ i j row. ways i j (row .is-row)) v)
+  still-honest honest v hv = omega (arith, bound-is v hv, closer .honest bound most old (λ i j row. ways i j (of-part i row)) v)
     where
       most : (u : ℕ) → bound u ≤ FAR
       most u = elim (decLt u (m .vertices)) [ yes hu ↦ omega (arith, bound-is u hu, dist-most m net u hu x) | no out ↦ omega (arith, bound-none u (omega (arith, out))) ]
@@ -86,47 +86,19 @@ module _ {m : Map} {s : State} {mem : List ℕ} (g : Genuine m s mem) (p : ℕ) 
     pub known : word dx by ≤ dist m by x
     pub splits : dist m r x ≡ dist m r by + dist m by x
 
-  -- each vertex has one row
-  apart : Apart mem (partWord mem p 2) (rowsIn mem p)
-  unfolding sizeOf
-  apart a b ha hb same =
-      let vertex : rowVertex m p a ≡ rowVertex m p b = sym (owner-read g p hp a (row-size ha)) ∙ same ∙ owner-read g p hp b (row-size hb) in
-      omega (
-        arith,
-        place-of-entry (rows-unique m p) a (row-size ha),
-        place-of-entry (rows-unique m p) b (row-size hb),
-        ap (λ (k : ℕ). placeIn k (rowVertices m p)) vertex,
-      )
+  -- r is asked for where it has no distance
+  abbrev pub AskedFor : ℕ → Type 0
+  AskedFor r = (i : ℕ) → i < sizeOf m p → rowVertex m p i ≡ r → FAR ≤ nearAt mem (partWord mem p 2) dx i → Asked i
 
-  -- r is asked for where it has no distance: all are, or something is shown further down
-  abbrev ShownBelow : ℕ → Type 0
-  ShownBelow r = (i : ℕ) → i < sizeOf m p → rowVertex m p i ≡ r → belowAt mem (partWord mem p 2) i < FAR
-
-  abbrev Wanted : ℕ → Type 0
-  Wanted r = (all ≡ true) ⊎ ShownBelow r
-
-  asked-if : (i : ℕ) → i < sizeOf m p → FAR ≤ nearAt mem (partWord mem p 2) dx i → Wanted (rowVertex m p i) → isAsked all mem (partWord mem p 2) dx i ≡ true
-  unfolding isAsked
-  asked-if i hi none (inl isAll) = both-pass _ _ (le-leb FAR _ none) (left-true all _ isAll)
-  asked-if i hi none (inr shown) = both-pass _ _ (le-leb FAR _ none) (right-true all _ (lt-ltb _ FAR (shown i hi refl)))
-
-  asked-says : (i : ℕ) → i < sizeOf m p → isAsked all mem (partWord mem p 2) dx i ≡ true → Wanted (rowVertex m p i)
-  unfolding isAsked
-  asked-says i hi asked =
-      ⊎-elim inl
-      (λ shown. inr (λ j hj same.
-      omega (
-        arith,
-        ltb-true (belowAt mem (partWord mem p 2) i) FAR shown,
-        ap (belowAt mem (partWord mem p 2)) (apart j i (row-in-part hj) (row-in-part hi) (owner-read g p hp j hj ∙ same ∙ sym (owner-read g p hp i hi))),
-      )))
-      (one-true all (ltb (belowAt mem (partWord mem p 2) i) FAR) (both-true (leb FAR (nearAt mem (partWord mem p 2) dx i)) _ asked .1))
-    where
-      row-in-part : {i : ℕ} → i < sizeOf m p → i < rowsIn mem p
-      row-in-part h = omega (arith, rows-read g p hp)
+  -- a row that is asked for is its vertex's only row
+  asked-one : (i : ℕ) → Asked i → AskedFor (rowVertex m p i)
+  asked-one i row j hj same none =
+      subst⁻¹ Asked
+      (one-row m p j i hj (row-size (of-part i row)) same)
+      row
 
   module _ (known : (v : ℕ) → v < m .vertices → word dx v < FAR → word dx v ≤ dist m v x) where
-    exact : (r : ℕ) → List·Memᴰ r (rowVertices m p) → Wanted r → (dist m r x ≢ FAR → Split r) → word dx′ r ≤ dist m r x
+    exact : (r : ℕ) → List·Memᴰ r (rowVertices m p) → AskedFor r → (dist m r x ≢ FAR → Split r) → word dx′ r ≤ dist m r x
     exact r hr wanted split = by (decLt (word dx r) FAR)
       where
         place : (i : ℕ) × (i < sizeOf m p) × (rowVertex m p i ≡ r)
@@ -138,11 +110,8 @@ module _ {m : Map} {s : State} {mem : List ℕ} (g : Genuine m s mem) (p : ℕ) 
         at : word dx′ (ownerAt mem (partWord mem p 2) (place .0)) ≡ word dx′ r
         at = ap (word dx′) owner
 
-        within : place .0 < rowsIn mem p
-        within = omega (arith, place .1, rows-read g p hp)
-
-        decided : isAsked all mem (partWord mem p 2) dx (place .0) ≡ true → Dec (dist m r x ≡ FAR) → word dx′ r ≤ dist m r x
-        decided asked (yes far) = omega (arith, at, closer .far (place .0) (record { is-row = within; is-asked = asked }))
+        decided : Asked (place .0) → Dec (dist m r x ≡ FAR) → word dx′ r ≤ dist m r x
+        decided asked (yes far) = omega (arith, at, closer .far (place .0) asked)
         decided asked (no real) =
             let t = split real in
             let (j, hj, same) = place-read g p hp (t .by) (t .is-row) in
@@ -150,7 +119,7 @@ module _ {m : Map} {s : State} {mem : List ℕ} (g : Genuine m s mem) (p : ℕ) 
             omega (
               arith,
               at,
-              closer .ways (place .0) j (record { is-row = within; is-asked = asked }) (omega (arith, hj, rows-read g p hp)),
+              closer .ways (place .0) j asked (omega (arith, hj, rows-read g p hp)),
               entry-read g p hp (place .0) j (place .1) hj,
               ap (word dx) (owner-read g p hp j hj ∙ same),
               t .known,
@@ -160,26 +129,24 @@ module _ {m : Map} {s : State} {mem : List ℕ} (g : Genuine m s mem) (p : ℕ) 
         by : Dec (word dx r < FAR) → word dx′ r ≤ dist m r x
         by (yes some) = omega (arith, closer .no-more r, known r (row-vertex m p r hr) some)
         by (no none) =
-            decided (asked-if (place .0) (place .1) (omega (arith, none, ap (word dx) owner)) (subst⁻¹ Wanted (place .2) wanted)) (ℕ-discrete (dist m r x) FAR)
+            decided (wanted (place .0) (place .1) (place .2) (omega (arith, none, ap (word dx) owner))) (ℕ-discrete (dist m r x) FAR)
 
     -- no distance is too great, where each row that is asked for has its own
-    still-known : ((r : ℕ) → List·Memᴰ r (rowVertices m p) → Wanted r → word dx′ r ≤ dist m r x) → (v : ℕ) → v < m .vertices → word dx′ v < FAR → word dx′ v ≤ dist m v x
+    still-known : ((i : ℕ) → Asked i → word dx′ (rowVertex m p i) ≤ dist m (rowVertex m p i) x) → (v : ℕ) → v < m .vertices → word dx′ v < FAR → word dx′ v ≤ dist m v x
     still-known each v hv some =
         ⊎-elim
         (λ same. omega (arith, same, known v hv (omega (arith, same, some))))
         (λ (i, row, owner).
-        let hi′ : i < sizeOf m p = row-size (row .is-row) in
-        let is : rowVertex m p i ≡ v = sym (owner-read g p hp i hi′) ∙ owner in
-        subst (λ (k : ℕ). word dx′ k ≤ dist m k x) is (each (rowVertex m p i) (row-in g p hp i hi′) (asked-says i hi′ (row .is-asked))))
+        let is : rowVertex m p i ≡ v = sym (owner-read g p hp i (row-size (of-part i row))) ∙ owner in
+        subst (λ (k : ℕ). word dx′ k ≤ dist m k x) is (each i row))
         (closer .changed v)
 
     -- x stands outside
     module _ (outside : holds m p x ≡ false) (gates : (b : ℕ) → boundary m p b ≡ true → rowOf m (active m s) p b .distance < FAR → word dx b ≤ dist m b x) where
-      pub exact-out : (r : ℕ) → List·Memᴰ r (rowVertices m p) → ShownBelow r → word dx′ r ≤ dist m r x
-      exact-out r hr shown = exact r hr (inr shown) (λ real.
+      pub exact-out : (r : ℕ) → List·Memᴰ r (rowVertices m p) → AskedFor r → (u : ℕ) × Arrives m (active m s) p r u → word dx′ r ≤ dist m r x
+      exact-out r hr wanted (u, comes) = exact r hr wanted (λ real.
           let hr′ : r < m .vertices = row-vertex m p r hr in
           let t = leaves-through m p net r x hr′ real (row-held m net tree p r hr) outside in
-          let (u, comes) = shown-arrives g p hp r hr shown in
           let further = arrives-further g p r u comes hr′ (t .at) (λ far. real (omega (arith, far, t .splits, dist-most m net r hr′ x))) in
           record {
             by = t .at;
@@ -188,14 +155,17 @@ module _ {m : Map} {s : State} {mem : List ℕ} (g : Genuine m s mem) (p : ℕ) 
             splits = t .splits;
           })
 
-      pub known-out : all ≡ false → (v : ℕ) → v < m .vertices → word dx′ v < FAR → word dx′ v ≤ dist m v x
-      known-out some = still-known (λ r hr wanted. exact-out r hr (⊎-elim (λ every. absurd (true≢false (sym every ∙ some))) (λ shown. shown) wanted))
+      pub known-out : ((i : ℕ) → Asked i → (u : ℕ) × Arrives m (active m s) p (rowVertex m p i) u) → (v : ℕ) → v < m .vertices → word dx′ v < FAR → word dx′ v ≤ dist m v x
+      known-out arrives = still-known (λ i row. exact-out (rowVertex m p i) (row-in g p hp i (row-size (of-part i row))) (asked-one i row) (arrives i row))
 
-    module _ (every : all ≡ true) where
+    module _ (every : (i : ℕ) → i < sizeOf m p → FAR ≤ nearAt mem (partWord mem p 2) dx i → Asked i) where
+      wanted : (r : ℕ) → AskedFor r
+      wanted r i hi same none = every i hi none
+
       -- x stands in the child c
       module _ (inner : isLeaf m p ≡ false) (c : ℕ) (hc : List·Memᴰ c (children m p)) (inside : holds m c x ≡ true) (gates : (b : ℕ) → boundary m c b ≡ true → word dx b ≤ dist m b x) where
         pub exact-in : (r : ℕ) → List·Memᴰ r (rowVertices m p) → word dx′ r ≤ dist m r x
-        exact-in r hr = exact r hr (inl every) (λ real. ⊎-elim
+        exact-in r hr = exact r hr (wanted r) (λ real. ⊎-elim
             (λ together.
             let b = borders-says m net tree p r (subst (List·Memᴰ r) (rows-inner m p inner) hr) .1 c hc together in
             record { by = r; is-row = hr; known = gates r b; splits = omega (arith, dist-self m net r (row-vertex m p r hr)) })
@@ -210,12 +180,12 @@ module _ {m : Map} {s : State} {mem : List ℕ} (g : Genuine m s mem) (p : ℕ) 
             (true-or-false (holds m c r)))
 
         pub known-in : (v : ℕ) → v < m .vertices → word dx′ v < FAR → word dx′ v ≤ dist m v x
-        known-in = still-known (λ r hr wanted. exact-in r hr)
+        known-in = still-known (λ i row. exact-in (rowVertex m p i) (row-in g p hp i (row-size (of-part i row))))
 
       -- the leaf of x
       module _ (leaf : isLeaf m p ≡ true) (own : leafOf m x ≡ p) (start : word dx x ≤ 0) where
         pub exact-own : (r : ℕ) → List·Memᴰ r (rowVertices m p) → word dx′ r ≤ dist m r x
-        exact-own r hr = exact r hr (inl every) (λ real.
+        exact-own r hr = exact r hr (wanted r) (λ real.
             record {
               by = x;
               is-row = subst⁻¹ (List·Memᴰ x) (rows-leaf m p leaf) (vertices-has m p x hx own);
@@ -224,4 +194,4 @@ module _ {m : Map} {s : State} {mem : List ℕ} (g : Genuine m s mem) (p : ℕ) 
             })
 
         pub known-own : (v : ℕ) → v < m .vertices → word dx′ v < FAR → word dx′ v ≤ dist m v x
-        known-own = still-known (λ r hr wanted. exact-own r hr)
+        known-own = still-known (λ i row. exact-own (rowVertex m p i) (row-in g p hp i (row-size (of-part i row))))

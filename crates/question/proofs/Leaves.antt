@@ -2,7 +2,7 @@
 -- Assumes nothing.
 use mathlib.Core.Path.{_≡_, refl, sym, ap, subst, subst⁻¹, _∙_}
 use mathlib.Core.Logic.{_⊎_, inl, inr, ⊎-elim, _≢_}
-use mathlib.Core.Bool.{Bool, true, false, cond, _&&_}
+use mathlib.Core.Bool.{Bool, true, false, cond, _&&_, true≢false}
 use mathlib.Core.List.{List, [], _∷_, _++_, List·Memᴰ, List·Memᴰ·head, List·Memᴰ·tail, List·Memᴰ·not-nil, List·Memᴰ·append-cases, Memᴰ·append-left, Memᴰ·append-right, Memᴰ·cast}
 use Prim.Native.Nat.{ℕ, zero, suc, _+_, _≤_, _<_}
 use native.Mathlib.Nat.{zero-add}
@@ -13,7 +13,7 @@ use lib.Seq.{getD-set-same, getD-set-other}
 use lib.Dec.{eqb, ltb}
 use borrow.Author.Tests.{eqb-true, eq-eqb, ne-eqb, ltb-true, lt-ltb, le-ltb}
 use Rattle.words.specs.Limits.{FAR, mostAsked}
-use Rattle.words.specs.Lists.{word, placeIn, keep}
+use Rattle.words.specs.Lists.{word, placeIn, keep, countFrom}
 use Rattle.words.proofs.Tests.{true-or-false, both-true, both-pass}
 use Rattle.words.proofs.Places.{place-of-entry}
 use Rattle.roads.specs.Map.{Map, partCount}
@@ -31,13 +31,13 @@ use Rattle.image.specs.Records.{rowVertex}
 use Rattle.places.specs.Place.{countsIn, vertexAt}
 use Rattle.best_list.specs.Best.{offeredAll}
 use Rattle.best_list.proofs.Offers.{bestOf, offered-more}
-use Rattle.van_offers.specs.Offers.{vanOffers, rowOwner, vertexOffers, leafOffers}
-use Rattle.part_bounds.specs.Bounds.{partWord, rowsIn}
+use Rattle.van_offers.specs.Offers.{vanOffers, rowOwner, vertexOffers, rowOffers}
+use Rattle.part_bounds.specs.Bounds.{partWord, rowsIn, showsOwn}
 use Rattle.van_offers.specs.Genuine.{Genuine}
 use Rattle.van_offers.proofs.Heading.{Comer, offers-say, offers-have, offers-distinct, head-below, head-active, idle-link}
 use Rattle.van_offers.proofs.Comers.{comers, comer-says, comer-has, comer-near}
-use Rattle.question.specs.Kept.{vanLeaf, isOffered}
-use Rattle.question.proofs.Shown.{rows-read, owner-read, row-below, row-in, place-read}
+use Rattle.question.specs.Kept.{offersOf, vanLeaf, isOffered}
+use Rattle.question.proofs.Shown.{rows-read, owner-read, row-below, row-in, place-read, own-shown}
 
 distinct-append : {a b : List Listed} → Distinct a → Distinct b → ((x y : Listed) → List·Memᴰ x a → List·Memᴰ y b → x .van ≢ y .van) → Distinct (a ++ b)
 distinct-append none db apart = db
@@ -64,7 +64,7 @@ module _ {m : Map} {s : State} {mem : List ℕ} (g : Genuine m s mem) (x : ℕ) 
     first = partWord mem q 2
 
     abbrev offersFrom : ℕ → ℕ → List Listed
-    offersFrom n i = leafOffers mem (countsIn mem) first dx n i
+    offersFrom n i = rowOffers mem (countsIn mem) first dx (countFrom i n)
 
     -- a comer that heads for the vertex of row r
     record FromRow (e : Listed) (low high : ℕ) : Type 0 where
@@ -78,15 +78,15 @@ module _ {m : Map} {s : State} {mem : List ℕ} (g : Genuine m s mem) (x : ℕ) 
       v : ℕ
       v = rowVertex m q i
 
-      rowOffers : List Listed
-      rowOffers = vertexOffers mem (countsIn mem) (rowOwner mem first i) (word dx (rowOwner mem first i))
+      offersAt : List Listed
+      offersAt = vertexOffers mem (countsIn mem) (rowOwner mem first i) (word dx (rowOwner mem first i))
 
       abbrev chainOf : ℕ → ℕ → List Listed
       chainOf near u = vanOffers mem (countsIn mem) near 1024 (word mem (vertexAt (countsIn mem) u + 4))
 
       -- nobody heads for a vertex that is not active
-      row-idle : active m s v ≡ false → rowOffers ≡ []
-      unfolding rowOffers vertexOffers v
+      row-idle : active m s v ≡ false → offersAt ≡ []
+      unfolding offersAt vertexOffers v
       row-idle idle =
           let none : word mem (vertexAt (countsIn mem) (rowOwner mem first i) + 4) ≡ 0 =
           ap (λ (u : ℕ). word mem (vertexAt (countsIn mem) u + 4)) (owner-read g q hq i hi) ∙ idle-link g (rowVertex m q i) (row-below g q hq i hi) idle in
@@ -98,26 +98,26 @@ module _ {m : Map} {s : State} {mem : List ℕ} (g : Genuine m s mem) (x : ℕ) 
         unfolding v
         near-is = ap (word dx) (owner-read g q hq i hi) ∙ exact (rowVertex m q i) (row-in g q hq i hi) act
 
-        row-near : dist m v x < FAR → rowOffers ≡ chainOf (dist m v x) v
-        unfolding rowOffers vertexOffers v
+        row-near : dist m v x < FAR → offersAt ≡ chainOf (dist m v x) v
+        unfolding offersAt vertexOffers v
         row-near reaches =
             rw (lt-ltb (word dx (rowOwner mem first i)) FAR (omega (arith, near-is)))
             (λ j. chainOf (near-is j) (owner-read g q hq i hi j))
 
-        row-far : FAR ≤ dist m v x → rowOffers ≡ []
-        unfolding rowOffers vertexOffers
+        row-far : FAR ≤ dist m v x → offersAt ≡ []
+        unfolding offersAt vertexOffers
         row-far far = rw (le-ltb (word dx (rowOwner mem first i)) FAR (omega (arith, near-is)))
 
       -- nothing is offered, or what heads for an active vertex that reaches x
-      cases : (rowOffers ≡ []) ⊎ ((dist m v x < FAR) × (rowOffers ≡ chainOf (dist m v x) v))
+      cases : (offersAt ≡ []) ⊎ ((dist m v x < FAR) × (offersAt ≡ chainOf (dist m v x) v))
       cases = by (true-or-false (active m s v)) (decLt (dist m v x) FAR)
         where
-          by : (active m s v ≡ true) ⊎ (active m s v ≡ false) → Dec (dist m v x < FAR) → (rowOffers ≡ []) ⊎ ((dist m v x < FAR) × (rowOffers ≡ chainOf (dist m v x) v))
+          by : (active m s v ≡ true) ⊎ (active m s v ≡ false) → Dec (dist m v x < FAR) → (offersAt ≡ []) ⊎ ((dist m v x < FAR) × (offersAt ≡ chainOf (dist m v x) v))
           by (inr idle) d = inl (row-idle idle)
           by (inl act) (no far) = inl (row-far act (omega (arith, far)))
           by (inl act) (yes reaches) = inr (reaches, row-near act reaches)
 
-      row-says : (e : Listed) → List·Memᴰ e rowOffers → FromRow e i (suc i)
+      row-says : (e : Listed) → List·Memᴰ e offersAt → FromRow e i (suc i)
       unfolding v
       row-says e h =
           ⊎-elim
@@ -127,14 +127,14 @@ module _ {m : Map} {s : State} {mem : List ℕ} (g : Genuine m s mem) (x : ℕ) 
           record { row = i; from = omega arith; below = omega arith; comer = c; heads = heads })
           cases
 
-      row-has : (e : Listed) (c : Comer g x e) → headOf m (c .van) ≡ v → List·Memᴰ e rowOffers
+      row-has : (e : Listed) (c : Comer g x e) → headOf m (c .van) ≡ v → List·Memᴰ e offersAt
       unfolding v
       row-has e c heads =
           let reaches : dist m v x < FAR = omega (arith, c .reaches, ap (λ (k : ℕ). dist m k x) heads) in
           subst⁻¹ (List·Memᴰ e) (row-near (ap (active m s) (sym heads) ∙ head-active g (c .place) (c .van) (c .there) (c .free)) reaches)
           (Memᴰ·cast (c .same) (offers-have g x v (dist m v x) reaches refl (row-below g q hq i hi) (c .place) (c .van) (c .there) (c .free) heads))
 
-      row-distinct : Distinct rowOffers
+      row-distinct : Distinct offersAt
       unfolding v
       row-distinct =
           ⊎-elim
@@ -143,21 +143,21 @@ module _ {m : Map} {s : State} {mem : List ℕ} (g : Genuine m s mem) (x : ℕ) 
           cases
 
     all-say : (n i : ℕ) → i + n ≤ sizeOf m q → (e : Listed) → List·Memᴰ e (offersFrom n i) → FromRow e i (i + n)
-    unfolding leafOffers rowOffers
+    unfolding rowOffers offersAt
     all-say zero i most e h = absurd (List·Memᴰ·not-nil h)
     all-say (suc n) i most e h =
         ⊎-elim
         (λ here. let f = row-says i (omega arith) e here in record { row = f .row; from = f .from; below = omega (arith, f .below); comer = f .comer; heads = f .heads })
         (λ later. let f = all-say n (suc i) (omega arith) e later in record { row = f .row; from = omega (arith, f .from); below = omega (arith, f .below); comer = f .comer; heads = f .heads })
-        (List·Memᴰ·append-cases (rowOffers i (omega arith)) h)
+        (List·Memᴰ·append-cases (offersAt i (omega arith)) h)
 
     all-have : (n i j : ℕ) → i + n ≤ sizeOf m q → i ≤ j → j < i + n → (e : Listed) (c : Comer g x e) → headOf m (c .van) ≡ rowVertex m q j → List·Memᴰ e (offersFrom n i)
-    unfolding leafOffers rowOffers v
+    unfolding rowOffers offersAt v
     all-have zero i j most low high e c heads = absurd (omega arith)
     all-have (suc n) i j most low high e c heads =
         elim (ℕ-discrete j i) [
           | yes same ↦ Memᴰ·append-left (offersFrom n (suc i)) (row-has i (omega arith) e c (heads ∙ ap (rowVertex m q) same))
-          | no other ↦ Memᴰ·append-right (rowOffers i (omega arith)) (all-have n (suc i) j (omega arith) (omega (arith, other)) (omega arith) e c heads)
+          | no other ↦ Memᴰ·append-right (offersAt i (omega arith)) (all-have n (suc i) j (omega arith) (omega (arith, other)) (omega arith) e c heads)
         ]
 
     -- a van heads for one vertex, which has one row
@@ -178,7 +178,7 @@ module _ {m : Map} {s : State} {mem : List ℕ} (g : Genuine m s mem) (x : ℕ) 
         )
 
     all-distinct : (n i : ℕ) → i + n ≤ sizeOf m q → Distinct (offersFrom n i)
-    unfolding leafOffers rowOffers
+    unfolding rowOffers offersAt
     all-distinct zero i most = none
     all-distinct (suc n) i most =
         distinct-append (row-distinct i (omega arith)) (all-distinct n (suc i) (omega arith))
@@ -186,7 +186,25 @@ module _ {m : Map} {s : State} {mem : List ℕ} (g : Genuine m s mem) (x : ℕ) 
 
     -- all that it offers
     abbrev pub leafList : List Listed
-    leafList = leafOffers mem (countsIn mem) (partWord mem q 2) dx (rowsIn mem q) 0
+    leafList = offersFrom (rowsIn mem q) 0
+
+    -- rows that show another vertex than their own offer nothing
+    own-enough : (n i : ℕ) → i + n ≤ sizeOf m q → rowOffers mem (countsIn mem) first dx (keep (showsOwn mem first) (countFrom i n)) ≡ offersFrom n i
+    unfolding rowOffers offersAt showsOwn v
+    own-enough zero i most = refl
+    own-enough (suc n) i most = by (showsOwn mem first i) refl (own-enough n (suc i) (omega arith))
+      where
+        by : (b : Bool) → showsOwn mem first i ≡ b → rowOffers mem (countsIn mem) first dx (keep (showsOwn mem first) (countFrom (suc i) n)) ≡ offersFrom n (suc i)
+            → rowOffers mem (countsIn mem) first dx (cond b (i ∷ keep (showsOwn mem first) (countFrom (suc i) n)) (keep (showsOwn mem first) (countFrom (suc i) n)))
+            ≡ offersAt i (omega arith) ++ offersFrom n (suc i)
+        by true own later = ap (λ (l : List Listed). offersAt i (omega arith) ++ l) later
+        by false other later =
+            later
+            ∙ ap (λ (l : List Listed). l ++ offersFrom n (suc i))
+            (sym (row-idle i (omega arith) (⊎-elim
+            (λ act. absurd (true≢false (sym (eq-eqb _ 0 (own-shown g q hq i (omega arith) act)) ∙ other)))
+            (λ idle. idle)
+            (true-or-false (active m s (rowVertex m q i))))))
 
     within : rowsIn mem q ≡ sizeOf m q
     within = rows-read g q hq
@@ -215,7 +233,7 @@ module _ {m : Map} {s : State} {mem : List ℕ} (g : Genuine m s mem) (x : ℕ) 
       unfolding isOffered
       mark-is l c marks′ = ap (λ (p : ℕ). eqb (word marks′ p) 1) (comer-leaf l c)
 
-      pub leaf-best : offeredAll k (take k (sorted (keep (isOffered m s marks) (comers g x)))) leafList ≡ take k (sorted (keep (isOffered m s (set marks q 1)) (comers g x)))
+      leaf-best : offeredAll k (take k (sorted (keep (isOffered m s marks) (comers g x)))) leafList ≡ take k (sorted (keep (isOffered m s (set marks q 1)) (comers g x)))
       leaf-best =
           offered-more k some (comers g x) (coming-distinct m x 0 (s .vans)) (comer-near g x) (isOffered m s marks) (isOffered m s (set marks q 1)) leafList
           (all-distinct (rowsIn mem q) 0 (omega (arith, within)))
@@ -242,3 +260,6 @@ module _ {m : Map} {s : State} {mem : List ℕ} (g : Genuine m s mem) (x : ℕ) 
                 | yes own ↦ own-marked l c own
                 | no other ↦ mark-is l c (set marks q 1) ∙ ap (λ (w : ℕ). eqb w 1) (kept (leafOf m (headOf m (c .van))) other) ∙ sym (mark-is l c marks) ∙ e
               ]
+
+      pub own-best : offeredAll k (take k (sorted (keep (isOffered m s marks) (comers g x)))) (offersOf mem q dx) ≡ take k (sorted (keep (isOffered m s (set marks q 1)) (comers g x)))
+      own-best = ap (offeredAll k (take k (sorted (keep (isOffered m s marks) (comers g x))))) (own-enough (rowsIn mem q) 0 (omega (arith, within))) ∙ leaf-best

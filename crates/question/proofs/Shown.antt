@@ -1,6 +1,6 @@
 -- What the words of a map and a fleet say of parts, rows, vertices and vans.
 -- Assumes nothing.
-use mathlib.Core.Path.{_≡_, refl, ap, subst, _∙_}
+use mathlib.Core.Path.{_≡_, refl, sym, ap, subst, subst⁻¹, _∙_}
 use mathlib.Core.Logic.{_⊎_, inl, inr, ⊎-elim, _≢_}
 use mathlib.Core.Bool.{Bool, true, false, cond}
 use mathlib.Core.List.{List, List·Memᴰ}
@@ -9,49 +9,40 @@ use native.Mathlib.Nat.{mod-eq-of-lt, add-mul-mod-self-left, add-mul-div-left, d
 use native.Mathlib.Decide.{ℕ-discrete}
 use native.Mathlib.Omega.{arith}
 use lib.ListN.{length, getD}
+use borrow.Author.Tests.{eqb-true}
 use Rattle.words.specs.Limits.{FAR, vans}
 use Rattle.words.specs.Lists.{word, placeIn, firstOr}
 use Rattle.words.proofs.Tests.{true-or-false}
 use Rattle.words.proofs.Lists.{place-in}
-use Rattle.words.proofs.Places.{entry-in}
+use Rattle.words.proofs.Sums.{sum-below}
+use Rattle.words.proofs.Places.{entry-in, place-of-entry}
 use Rattle.roads.specs.Map.{Map, partCount}
 use Rattle.roads.specs.Dist.{dist}
 use Rattle.roads.proofs.Trail.{Net, join}
 use Rattle.roads.proofs.Laws.{dist-most, dist-self}
-use Rattle.parts.specs.Tree.{parentOf, leafOf, holds, children, childOf, isLeaf}
+use Rattle.parts.specs.Tree.{parentOf, leafOf, verticesOf, holds, children, childOf, isLeaf}
 use Rattle.parts.specs.Border.{borders}
-use Rattle.parts.specs.Size.{rowVertices, sizeOf}
-use Rattle.parts.proofs.Rows.{row-vertex}
-use Rattle.parts.proofs.Down.{Tree, child-held, boundary-inside, children-says, border-row, border-child}
-use Rattle.parts.proofs.Gates.{rows-inner, row-held}
+use Rattle.parts.specs.Size.{rowVertices, sizeOf, rowsBelow, rowCount, tableWordsBelow, tableWords, need}
+use Rattle.parts.proofs.Rows.{row-vertex, rows-unique}
+use Rattle.parts.proofs.Down.{Tree, child-held, boundary-inside, children-says, border-row, border-child, vertices-has}
+use Rattle.parts.proofs.Gates.{rows-leaf, rows-inner, row-held}
 use Rattle.maps.specs.Sound.{Sound}
 use Rattle.maps.proofs.Distances.{sound-net, sound-tree, sound-dist, few-rows}
 use Rattle.rows.specs.declared.Row.{Row}
-use Rattle.rows.specs.Row.{emptyRow, itself, rowOf, Arrives, IsRow, empty, shows}
+use Rattle.rows.specs.Row.{rowOf, Arrives, IsRow, empty, shows}
 use Rattle.rows.proofs.Least.{row-is}
+use Rattle.rows.proofs.Bounds.{row-bound}
 use Rattle.fleet.specs.State.{State, active}
 use Rattle.image.specs.Places.{verticesAt, roadsAt, vansAt, itselfAt, tableOf, firstRowOf, rowAt}
 use Rattle.image.specs.Image.{headPart, partRecord, vertexRecord, rowRecord, partBelow, rowBelow, image}
 use Rattle.image.specs.Records.{rowVertex}
+use Rattle.image.proofs.Length.{image-length}
 use Rattle.image.proofs.Words.{row-word}
-use Rattle.image.proofs.Records.{head-word, part-word, vertex-word, table-word, shown-word, vertices-start, roads-start, vans-start}
+use Rattle.image.proofs.Records.{head-word, part-word, vertex-word, table-word, shown-word, vertices-start, roads-start, vans-start, rows-start, rows-end}
 use Rattle.places.specs.Place.{countsIn, vertexAt, vanAt}
-use Rattle.part_bounds.specs.Bounds.{partWord, rowsIn, ownerAt, childAt, belowAt}
+use Rattle.part_bounds.specs.Bounds.{partWord, rowsIn, ownerAt, childAt, belowAt, showsOwn, Fits}
 use Rattle.van_offers.specs.Genuine.{Genuine}
 use Rattle.van_offers.proofs.Shown.{at-word, slots, vertex-read}
-
--- what shows a distance of itself is active
-shows-active : (isActive : ℕ → Bool) (v : ℕ) → itself isActive v .distance < FAR → isActive v ≡ true
-unfolding itself
-shows-active isActive v near = by (isActive v) near
-  where
-    by : (b : Bool) → cond b (record { vertex = v; distance = 0 }) emptyRow .distance < FAR → b ≡ true
-    by true near = refl
-    by false near = absurd (omega (arith, near))
-
-active-shows : (isActive : ℕ → Bool) (v : ℕ) → isActive v ≡ true → itself isActive v .distance ≡ 0
-unfolding itself
-active-shows isActive v act = ap (λ (b : Bool). cond b (record { vertex = v; distance = 0 }) emptyRow .distance) act
 
 -- a row that shows a distance shows an active vertex
 row-arrives : (m : Map) (isActive : ℕ → Bool) (q b : ℕ) → rowOf m isActive q b .distance < FAR → (u : ℕ) × Arrives m isActive q b u
@@ -60,6 +51,12 @@ row-arrives m isActive q b near = by (row-is m isActive q b) near
     by : {row : Row} → IsRow m isActive q b row → row .distance < FAR → (u : ℕ) × Arrives m isActive q b u
     by (empty nobody) near = absurd (omega (arith, near))
     by (shows u comes least) near = (u, comes)
+
+-- each vertex has one row
+pub one-row : (m : Map) (p a b : ℕ) → a < sizeOf m p → b < sizeOf m p → rowVertex m p a ≡ rowVertex m p b → a ≡ b
+unfolding sizeOf
+one-row m p a b ha hb same =
+    omega (arith, place-of-entry (rows-unique m p) a ha, place-of-entry (rows-unique m p) b hb, ap (λ (v : ℕ). placeIn v (rowVertices m p)) same)
 
 module _ {m : Map} {s : State} {mem : List ℕ} (g : Genuine m s mem) where
   -- The vertices.
@@ -165,56 +162,79 @@ module _ {m : Map} {s : State} {mem : List ℕ} (g : Genuine m s mem) where
           ∙ row-word m s (slots g) c (children-says m p c (child .0) .0) (rowVertex m p i)
           (border-row m (sound-net m (g .sound)) (sound-tree m (g .sound)) p (rowVertex m p i) c (border-in i hi) (child .0) (child .1)) 1 (omega arith) .1
 
-  -- What a row shows further down.
-
-  -- in a leaf, what the row's vertex shows of itself
-  pub itself-read : (p : ℕ) (hp : p < partCount m) → isLeaf m p ≡ true → (i : ℕ) → i < sizeOf m p → belowAt mem (partWord mem p 2) i ≡ itself (active m s) (rowVertex m p i) .distance
-  unfolding rowBelow itselfAt vertexRecord
-  itself-read p hp leaf i hi =
-      let v : ℕ = rowVertex m p i in
-      let below : word mem (partWord mem p 2 + 4 * i + 3) ≡ itselfAt m v = shown p hp i 3 hi (omega arith) ∙ ap (λ (b : Bool). cond b (itselfAt m v) (rowAt m (childOf m p v) v)) leaf in
-      let at : word mem (partWord mem p 2 + 4 * i + 3) + 1 ≡ verticesAt m + 8 * v + 6 = omega (arith, below) in
-      ap (word mem) at ∙ at-word g (verticesAt m + 8 * v + 6) ∙ vertex-word m s (slots g) v 6 (row-below p hp i hi) (omega arith)
-
-  -- which an active vertex shows
-  pub active-shown : (p : ℕ) (hp : p < partCount m) → isLeaf m p ≡ true → (r : ℕ) → active m s r ≡ true
-      → (i : ℕ) → i < sizeOf m p → rowVertex m p i ≡ r → belowAt mem (partWord mem p 2) i < FAR
-  active-shown p hp leaf r act i hi same =
-      omega (arith, itself-read p hp leaf i hi, ap (λ (v : ℕ). itself (active m s) v .distance) same, active-shows (active m s) r act)
-
-  -- an active vertex of the part arrives at a row below which something is shown
-  pub shown-arrives : (p : ℕ) → p < partCount m → (r : ℕ) → List·Memᴰ r (rowVertices m p)
-      → ((i : ℕ) → i < sizeOf m p → rowVertex m p i ≡ r → belowAt mem (partWord mem p 2) i < FAR) → (u : ℕ) × Arrives m (active m s) p r u
-  shown-arrives p hp r hr below = by (true-or-false (isLeaf m p))
+  -- The rows and the table of a part lie within the memory.
+  pub part-fits : (p : ℕ) → p < partCount m → Fits mem p
+  unfolding firstRowOf rowsBelow rowCount tableOf tableWordsBelow tableWords
+  part-fits p hp =
+      record {
+        rows = omega (arith, first-read p hp, rows-read p hp, sum-below (sizeOf m) p (partCount m) hp, rows-end m, long);
+        table = omega (
+          arith,
+          table-read p hp,
+          ap (λ (k : ℕ). k * k) (rows-read p hp),
+          sum-below (λ q. sizeOf m q * sizeOf m q) p (partCount m) hp,
+          rows-start m,
+          rows-end m,
+          long,
+        );
+        apart = λ a b ha hb same.
+            let ha′ : a < sizeOf m p = omega (arith, ha, rows-read p hp) in
+            let hb′ : b < sizeOf m p = omega (arith, hb, rows-read p hp) in
+            one-row m p a b ha′ hb′ (sym (owner-read p hp a ha′) ∙ same ∙ owner-read p hp b hb′);
+      }
     where
-      net : Net m
-      net = sound-net m (g .sound)
+      long : length mem ≡ need m
+      long = ap length (g .is) ∙ image-length m s (slots g)
 
-      tree : Tree m
-      tree = sound-tree m (g .sound)
+  -- What a row shows.
 
-      place : (i : ℕ) × (i < sizeOf m p) × (rowVertex m p i ≡ r)
-      place = place-read p hp r hr
-
-      near : belowAt mem (partWord mem p 2) (place .0) < FAR
-      near = below (place .0) (place .1) (place .2)
-
-      by : (isLeaf m p ≡ true) ⊎ (isLeaf m p ≡ false) → (u : ℕ) × Arrives m (active m s) p r u
-      by (inl leaf) = (
-        r,
+  -- below a row of a part with children: an active vertex of the part arrives at the row's vertex
+  pub shown-arrives : (p : ℕ) (hp : p < partCount m) → isLeaf m p ≡ false → (i : ℕ) → i < sizeOf m p → belowAt mem (partWord mem p 2) i < FAR
+      → (u : ℕ) × Arrives m (active m s) p (rowVertex m p i) u
+  shown-arrives p hp inner i hi near =
+      let r : ℕ = rowVertex m p i in
+      let child = child-of-border p hp inner r (border-in p hp inner i hi) in
+      let (u, comes) = row-arrives m (active m s) (childOf m p r) r (omega (arith, near, below-read p hp inner i hi)) in (
+        u,
         record {
-          vertex = row-vertex m p r hr;
-          inside = row-held m net tree p r hr;
-          active = shows-active (active m s) r (omega (arith, near, itself-read p hp leaf (place .0) (place .1), ap (λ (v : ℕ). itself (active m s) v .distance) (place .2)));
-          reaches = omega (arith, dist-self m net r (row-vertex m p r hr));
+          vertex = comes .vertex;
+          inside = child-held m (sound-net m (g .sound)) (sound-tree m (g .sound)) p (childOf m p r) u (child .0) (comes .inside);
+          active = comes .active;
+          reaches = comes .reaches;
         },
       )
-      by (inr inner) =
-          let border : List·Memᴰ r (borders m p) = subst (List·Memᴰ r) (rows-inner m p inner) hr in
-          let child = child-of-border p hp inner r border in
-          let c : ℕ = childOf m p r in
-          let (u, comes) = row-arrives m (active m s) c r (omega (arith, near, below-read p hp inner (place .0) (place .1), ap (λ (v : ℕ). rowOf m (active m s) (childOf m p v) v .distance) (place .2))) in
-          (u, record { vertex = comes .vertex; inside = child-held m net tree p c u (child .0) (comes .inside); active = comes .active; reaches = comes .reaches })
+
+  -- a row that shows its own vertex shows an active one, and the row of an active vertex shows that
+  module _ (p : ℕ) (hp : p < partCount m) (i : ℕ) (hi : i < sizeOf m p) where
+    distance-read : word mem (partWord mem p 2 + 4 * i + 1) ≡ rowOf m (active m s) p (rowVertex m p i) .distance
+    distance-read = shown p hp i 1 hi (omega arith)
+
+    pub own-arrives : showsOwn mem (partWord mem p 2) i ≡ true → (u : ℕ) × Arrives m (active m s) p (rowVertex m p i) u
+    unfolding showsOwn
+    own-arrives own = row-arrives m (active m s) p (rowVertex m p i) (omega (arith, distance-read, eqb-true (word mem (partWord mem p 2 + 4 * i + 1)) 0 own))
+
+    pub own-shown : active m s (rowVertex m p i) ≡ true → word mem (partWord mem p 2 + 4 * i + 1) ≡ 0
+    own-shown act =
+        let hv = row-below p hp i hi in
+        let self = dist-self m (sound-net m (g .sound)) (rowVertex m p i) hv in
+        omega (
+          arith,
+          distance-read,
+          self,
+          row-bound m (active m s) p (rowVertex m p i) (rowVertex m p i)
+              (record { vertex = hv; inside = row-held m (sound-net m (g .sound)) (sound-tree m (g .sound)) p (rowVertex m p i) (row-in p hp i hi); active = act; reaches = omega (arith, self) }),
+        )
+
+  -- the row of a vertex in its leaf
+  pub place-of-own : (x : ℕ) → x < m .vertices
+      → (word mem (vertexAt (countsIn mem) x + 1) < sizeOf m (leafOf m x)) × (rowVertex m (leafOf m x) (word mem (vertexAt (countsIn mem) x + 1)) ≡ x)
+  unfolding vertexRecord sizeOf
+  place-of-own x hx =
+      let tree : Tree m = sound-tree m (g .sound) in
+      let rows : rowVertices m (leafOf m x) ≡ verticesOf m (leafOf m x) = rows-leaf m (leafOf m x) (tree .leaf-leaf x hx) in
+      let place : word mem (vertexAt (countsIn mem) x + 1) ≡ placeIn x (rowVertices m (leafOf m x)) = vertex-read g x 1 hx (omega arith) ∙ ap (placeIn x) (sym rows) in
+      let here = place-in x (rowVertices m (leafOf m x)) (subst⁻¹ (List·Memᴰ x) rows (vertices-has m (leafOf m x) x hx refl)) in
+      (omega (arith, place, here .0), ap (rowVertex m (leafOf m x)) place ∙ here .1)
 
   -- and so at what the row's vertex reaches
   pub arrives-further : (p r u : ℕ) → Arrives m (active m s) p r u → r < m .vertices → (t : ℕ) → dist m r t ≢ FAR → Arrives m (active m s) p t u

@@ -2,10 +2,10 @@
 -- lies outside the part climbed to.
 use mathlib.Core.Path.{_≡_}
 use mathlib.Core.Logic.{_⊎_, _≢_}
-use mathlib.Core.Bool.{Bool, true, false}
-use mathlib.Core.List.{List, _++_}
+use mathlib.Core.Bool.{Bool, true, false, _&&_}
+use mathlib.Core.List.{List, [], _++_}
 use Prim.Native.Nat.{ℕ, _+_, _*_, _≤_, _<_}
-use lib.ListN.{length, set, take, drop}
+use lib.ListN.{length, take, drop}
 use lib.Dec.{eqb, leb}
 use Rattle.words.specs.Limits.{FAR}
 use Rattle.words.specs.Lists.{word, keep, gather}
@@ -18,22 +18,36 @@ use Rattle.rows.specs.Row.{rowOf}
 use Rattle.fleet.specs.State.{Slot, absent, present, State, slotOf, headOf, active}
 use Rattle.fleet.specs.Question.{Listed, listedWords, comingFrom, sorted, nearest}
 use Rattle.places.specs.Place.{countsIn, vertexAt}
-use Rattle.best_list.specs.declared.BestList.{BestList}
-use Rattle.best_list.specs.Best.{offeredAll}
-use Rattle.van_offers.specs.Offers.{leafOffers}
-use Rattle.van_offers.specs.Genuine.{Genuine, listIn}
+use Rattle.best_list.specs.Best.{offeredAll, InOrder}
+use Rattle.van_offers.specs.Offers.{rowOffers}
+use Rattle.van_offers.specs.Genuine.{Genuine, listOf}
 use Rattle.far_sums.specs.Least.{Least}
-use Rattle.part_bounds.specs.Bounds.{partWord, rowsIn, showsOwn, Relaxed, outOf, farCount}
+use Rattle.part_bounds.specs.Bounds.{partWord, rowsIn, showsOwn, Fits, ownRows, OwnRow, Alone, Closer, Relaxed, outOf, farCount}
 use Rattle.question.specs.declared.Search.{Search}
 
 -- The functions of the search, on any words.
 
--- a leaf was looked at: nothing changes the second time
-pub record LeafTaken (mem : List ℕ) (leaf : ℕ) (all : Bool) (dx marks : List ℕ) (best : BestList) (k : ℕ) (dx′ marks′ : List ℕ) (best′ : BestList) : Type 0 where
-  pub few : best′ .len ≤ k
-  pub again : word marks leaf ≡ 1 → (dx′ ≡ dx) × (marks′ ≡ marks) × (best′ ≡ best)
-  pub first : word marks leaf ≢ 1 → Relaxed mem leaf all dx dx′ × (marks′ ≡ set marks leaf 1)
-      × (listIn mem best′ ≡ offeredAll k (listIn mem best) (leafOffers mem (countsIn mem) (partWord mem leaf 2) dx′ (rowsIn mem leaf) 0))
+-- the active rows of a leaf have their distances
+abbrev pub LeafRelaxed : List ℕ → ℕ → List ℕ → List ℕ → Type 0
+LeafRelaxed mem leaf dx dx′ =
+    Closer mem (partWord mem leaf 2) (partWord mem leaf 3) (rowsIn mem leaf) dx (OwnRow mem (partWord mem leaf 2) (rowsIn mem leaf)) dx′
+
+-- what the rows of a leaf that show their own vertex offer, with distances as they are
+abbrev pub offersOf : List ℕ → ℕ → List ℕ → List Listed
+offersOf mem leaf dx = rowOffers mem (countsIn mem) (partWord mem leaf 2) dx (ownRows mem leaf)
+
+-- a leaf was looked at
+pub record LeafTaken (mem : List ℕ) (leaf : ℕ) (dx fars vans : List ℕ) (len k : ℕ) (dx′ fars′ vans′ : List ℕ) (len′ : ℕ) : Type 0 where
+  pub few : len′ ≤ k
+  pub ordered : InOrder fars′ vans′ len′
+  pub looks : Fits mem leaf → LeafRelaxed mem leaf dx dx′ × (listOf mem fars′ vans′ len′ ≡ offeredAll k (listOf mem fars vans len) (offersOf mem leaf dx′))
+
+-- the leaf of the vertex asked at, whose row is the one at `place`, was looked at
+pub record OwnTaken (mem : List ℕ) (leaf place : ℕ) (dx : List ℕ) (k : ℕ) (dx′ fars′ vans′ : List ℕ) (len′ : ℕ) : Type 0 where
+  pub few : len′ ≤ k
+  pub ordered : InOrder fars′ vans′ len′
+  pub looks : Fits mem leaf → place < rowsIn mem leaf
+      → (Alone mem (partWord mem leaf 2) (rowsIn mem leaf) dx place → Relaxed mem leaf true dx dx′) × (listOf mem fars′ vans′ len′ ≡ offeredAll k [] (offersOf mem leaf dx′))
 
 -- the bound of what lies outside a part
 pub record BoundOutside (mem : List ℕ) (part : ℕ) (dx : List ℕ) (out : ℕ) : Type 0 where
@@ -68,9 +82,11 @@ pub record Waits (m : Map) (s : State) (x : ℕ) (dx : List ℕ) (q key : ℕ) :
   pub gates : (b : ℕ) → boundary m q b ≡ true → rowOf m (active m s) q b .distance < FAR → word dx b ≤ dist m b x
   pub bound : (v : ℕ) → Coming m s x v → holds m q v ≡ true → key ≤ dist m v x
 
+-- A search between two turns. The marks are in no array: 1 for each leaf that was looked at.
 pub record Searching (m : Map) (s : State) (x k : ℕ) (dx keys marks waits : List ℕ) (part out n : ℕ) (found : List Listed) : Type 0 where
   pub keys-length : length keys ≡ 512
   pub marks-length : length marks ≡ 512
+  pub waits-length : length waits ≡ 512
   -- no distance is too little
   pub honest : (v : ℕ) → v < m .vertices → dist m v x ≤ word dx v
   -- nor too great, where there is one
@@ -83,40 +99,68 @@ pub record Searching (m : Map) (s : State) (x k : ℕ) (dx keys marks waits : Li
   pub waiting : (t : ℕ) → t < n → Waits m s x dx (word waits t) (word keys (word waits t))
   pub inside : (v : ℕ) → Coming m s x v → holds m part v ≡ true → Covered m marks waits n part v
   pub keyed : (q : ℕ) → word keys q < FAR → (v : ℕ) → Coming m s x v → holds m q v ≡ true → Covered m marks waits n q v
+  -- a part that waits has a key, waits once, and was not looked at; a leaf that was looked at has a key, so it does not wait again
+  -- all that has a distance, and all that waits, lies in the part climbed to
+  pub known-inside : (v : ℕ) → v < m .vertices → word dx v < FAR → holds m part v ≡ true
+  pub waits-inside : (t : ℕ) → t < n → (v : ℕ) → holds m (word waits t) v ≡ true → holds m part v ≡ true
+  pub waits-keyed : (t : ℕ) → t < n → word keys (word waits t) < FAR
+  pub waits-apart : (t u : ℕ) → t < n → u < n → word waits t ≡ word waits u → t ≡ u
+  pub unmarked : (t : ℕ) → t < n → word marks (word waits t) ≢ 1
+  pub marked-keyed : (q : ℕ) → word marks q ≡ 1 → word keys q < FAR
   pub list : found ≡ take k (sorted (keep (isOffered m s marks) (comingFrom m x 0 (s .vans))))
 
 -- A turn.
 
+-- how a search stands before a turn
+pub record Stands (k : ℕ) (keys fars vans : List ℕ) (st : Search) : Type 0 where
+  pub few : st .len ≤ k
+  pub some : 1 ≤ k
+  pub most : k ≤ 32
+  pub ordered : InOrder fars vans (st .len)
+  pub total : farCount keys + st .waiting ≤ 512
+
+-- what a climb leaves
+pub record Climbs (mem dx keys waits : List ℕ) (st : Search) (dx′ keys′ waits′ : List ℕ) (st′ : Search) : Type 0 where
+  pub same-list : st′ .len ≡ st .len
+  pub total : farCount keys′ + st′ .waiting ≤ 512
+  pub shrinks : st′ .ended ≡ false → farCount keys′ + st′ .waiting + st′ .part < farCount keys + st .waiting + st .part
+  pub climbs : (m : Map) (fleet : State) (x k : ℕ) (marks : List ℕ) (found : List Listed) → Genuine m fleet mem → x < m .vertices
+      → Searching m fleet x k dx keys marks waits (st .part) (st .out) (st .waiting) found → st .out < FAR
+      → (st′ .ended ≡ false) × Searching m fleet x k dx′ keys′ marks waits′ (st′ .part) (st′ .out) (st′ .waiting) found
+
 -- what is so of any words: it ends, since the parts without a key, those that wait and the number of the part climbed to grow less together
-pub record Shrunk (k : ℕ) (keys waits : List ℕ) (st : Search) (keys′ waits′ : List ℕ) (st′ : Search) : Type 0 where
-  pub few : st′ .best .len ≤ k
-  pub waits-length : length waits′ ≡ 512
+pub record Shrunk (k : ℕ) (keys : List ℕ) (st : Search) (keys′ fars′ vans′ : List ℕ) (st′ : Search) : Type 0 where
+  pub few : st′ .len ≤ k
+  pub ordered : InOrder fars′ vans′ (st′ .len)
   pub total : farCount keys′ + st′ .waiting ≤ 512
   pub shrinks : st′ .ended ≡ false → farCount keys′ + st′ .waiting + st′ .part < farCount keys + st .waiting + st .part
 
 -- what is so between two turns: it goes on, or the list is the answer
-abbrev pub GoesOn : (m : Map) (s : State) (x k : ℕ) (mem dx keys marks waits : List ℕ) (st : Search) → Type 0
-GoesOn m s x k mem dx keys marks waits st =
-    (st .ended ≡ false → Searching m s x k dx keys marks waits (st .part) (st .out) (st .waiting) (listIn mem (st .best)))
-    × (st .ended ≡ true → listIn mem (st .best) ≡ nearest m s x k)
+abbrev pub GoesOn : (m : Map) (s : State) (x k : ℕ) (mem dx keys waits fars vans : List ℕ) (st : Search) → Type 0
+GoesOn m s x k mem dx keys waits fars vans st =
+    (st .ended ≡ false → (marks : List ℕ) × Searching m s x k dx keys marks waits (st .part) (st .out) (st .waiting) (listOf mem fars vans (st .len)))
+    × (st .ended ≡ true → listOf mem fars vans (st .len) ≡ nearest m s x k)
+
+-- what a turn leaves
+pub record Goes (mem : List ℕ) (k : ℕ) (dx keys waits fars vans : List ℕ) (st : Search) (dx′ keys′ waits′ fars′ vans′ : List ℕ) (st′ : Search) : Type 0 where
+  pub shrunk : Shrunk k keys st keys′ fars′ vans′ st′
+  pub on : (m : Map) (fleet : State) (x : ℕ) (marks : List ℕ) → Genuine m fleet mem → x < m .vertices
+      → Searching m fleet x k dx keys marks waits (st .part) (st .out) (st .waiting) (listOf mem fars vans (st .len)) → GoesOn m fleet x k mem dx′ keys′ waits′ fars′ vans′ st′
 
 -- The arrays of a search before it starts.
-pub record Fresh (dx keys marks waits : List ℕ) : Type 0 where
-  pub dx-length : length dx ≡ 4096
-  pub no-distance : (v : ℕ) → v < 4096 → word dx v ≡ FAR
+pub record Fresh (dx keys waits : List ℕ) : Type 0 where
+  pub no-distance : (v : ℕ) → v < length dx → word dx v ≡ FAR
   pub keys-length : length keys ≡ 512
   pub no-key : (q : ℕ) → q < 512 → word keys q ≡ FAR
-  pub marks-length : length marks ≡ 512
-  pub no-mark : (q : ℕ) → word marks q ≡ 0
   pub waits-length : length waits ≡ 512
 
 -- the leaf of x
 abbrev pub leafIn : List ℕ → ℕ → ℕ
 leafIn mem x = word mem (vertexAt (countsIn mem) x + 0)
 
--- where vans stand as in the leaf of x, k active vertices are among 64
+-- few are asked for, and where vans stand as in the leaf of x, k active vertices are among 8
 unfoldable pub closeBy : List ℕ → ℕ → ℕ → Bool
-closeBy mem x k = leb (k * rowsIn mem (leafIn mem x)) (64 * rank (showsOwn mem (partWord mem (leafIn mem x) 2)) (rowsIn mem (leafIn mem x)))
+closeBy mem x k = leb k 2 && leb (k * rowsIn mem (leafIn mem x)) (8 * rank (showsOwn mem (partWord mem (leafIn mem x) 2)) (rowsIn mem (leafIn mem x)))
 
 -- the words of a list, and then those of the answer that it leaves
 unfoldable pub written : List Listed → List ℕ → List ℕ

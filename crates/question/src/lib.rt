@@ -1,5 +1,6 @@
 // The k nearest free vans to a vertex: around the vertex where they are near, else best first over the parts, with bounds read from the rows.
 use best_list::BestList;
+use best_list::limit_of;
 use cells::put;
 use cells::wide;
 use cells::word;
@@ -10,11 +11,12 @@ use part_bounds::lower;
 use part_bounds::nearest_waiting;
 use part_bounds::open_up;
 use part_bounds::part_word;
-use part_bounds::relax;
+use part_bounds::relax_leaf;
+use part_bounds::relax_own;
 use part_bounds::rows_in;
 use part_bounds::way_out;
 use places::counts_in;
-use van_offers::offer_leaf;
+use van_offers::offer_rows;
 use van_offers::van_word;
 use van_offers::vertex_word;
 ghost use mathlib.Core.Path.{_≡_};
@@ -28,41 +30,87 @@ ghost use Rattle.roads.specs.Map.{Map};
 ghost use Rattle.fleet.specs.State.{State};
 ghost use Rattle.fleet.specs.Question.{nearest};
 ghost use Rattle.part_bounds.specs.Bounds.{farCount};
-ghost use Rattle.van_offers.specs.Genuine.{Genuine, listIn};
-ghost use Rattle.question.specs.Kept.{LeafTaken, BoundOutside, Searching, Shrunk, GoesOn, Fresh, closeBy, written};
+ghost use Rattle.best_list.specs.Best.{InOrder};
+ghost use Rattle.van_offers.specs.Genuine.{Genuine, listIn, listOf};
+ghost use Rattle.question.specs.Kept.{LeafTaken, OwnTaken, BoundOutside, Climbs, Stands, Goes, GoesOn, Fresh, closeBy, written};
 
-// A search between two turns: the best so far, the part climbed to, the bound of what lies outside it, and how many parts wait.
+// A search between two turns: how many vans are listed, the part climbed to, the bound of what lies outside it, how many parts wait, and
+// from which on those that joined in the last turn.
 pub struct Search {
-    pub best: BestList,
+    pub len: usize,
     pub part: u32,
     pub out: u32,
     pub waiting: usize,
+    pub from: usize,
     pub ended: bool,
 }
 
-// A leaf is looked at, once: its vertices, all or the active ones, get their distances, and their vans are offered.
+// A waiting leaf is looked at: its active vertices get their distances, and their vans are offered.
 fn take_leaf(
     mem: &[u32],
     leaf: u32,
-    all: bool,
     dx: &mut [u32],
-    marks: &mut [u32],
-    best: BestList,
+    places: &mut [u32; 128],
+    near: &mut [u32; 128],
+    asked: &mut [u32; 128],
+    fars: &mut [u32; 32],
+    vans: &mut [u32; 32],
+    len: usize,
     k: usize,
-) -> BestList
-    requires { ⌜ (best .len ≤ k) × (1 ≤ k) × (k ≤ 32) ⌝ }
-    ensures { λ r. ⌜ LeafTaken (now (mem .entry)) leaf all (now (dx .entry)) (now (marks .entry)) best k (now (dx .exit)) (now (marks .exit)) r ⌝ }
+) -> usize
+    requires { ⌜ (len ≤ k) × (1 ≤ k) × (k ≤ 32) × InOrder (now fars) (now vans) len ⌝ }
+    ensures { λ r. ⌜ LeafTaken (now (mem .entry)) leaf (now (dx .entry)) (now (fars .entry)) (now (vans .entry)) len k (now (dx .exit)) (now (fars .exit)) (now (vans .exit)) r ⌝ }
 {
     let p = wide(leaf);
-    if word(marks, p) == 1 {
-        return best;
-    }
-    relax(mem, p, all, dx);
-    put(marks, p, 1);
-    let size = rows_in(mem, p);
+    let count = relax_leaf(mem, p, dx, places, near, asked);
     let first = wide(part_word(mem, p, 2));
-    offer_leaf(mem, counts_in(mem), first, size, dx, best, k)
+    offer_rows(
+        mem,
+        counts_in(mem),
+        first,
+        asked,
+        count,
+        dx,
+        fars,
+        vans,
+        len,
+        k,
+    )
 }
+
+// The leaf of the vertex asked at is looked at: all its vertices get their distances, and their vans are offered.
+fn own_leaf(
+    mem: &[u32],
+    leaf: u32,
+    place: u32,
+    dx: &mut [u32],
+    asked: &mut [u32; 128],
+    fars: &mut [u32; 32],
+    vans: &mut [u32; 32],
+    k: usize,
+) -> usize
+    requires { ⌜ (1 ≤ k) × (k ≤ 32) × InOrder (now fars) (now vans) 0 ⌝ }
+    ensures { λ r. ⌜ OwnTaken (now (mem .entry)) leaf place (now (dx .entry)) k (now (dx .exit)) (now (fars .exit)) (now (vans .exit)) r ⌝ }
+{
+    let p = wide(leaf);
+    let count = relax_own(mem, p, wide(place), dx, asked);
+    let first = wide(part_word(mem, p, 2));
+    offer_rows(
+        mem,
+        counts_in(mem),
+        first,
+        asked,
+        count,
+        dx,
+        fars,
+        vans,
+        0,
+        k,
+    )
+}
+
+// As many vertices as a small map has at most.
+const FEW_VERTICES: u32 = 1024;
 
 // The bound of what lies outside a part: FAR for the root.
 fn bound_outside(mem: &[u32], part: u32, dx: &[u32]) -> u32
@@ -76,7 +124,7 @@ fn bound_outside(mem: &[u32], part: u32, dx: &[u32]) -> u32
 }
 
 // The part at place `at` of those that wait is given up: the last of them takes its place.
-fn give_up(waits: &mut [u32], at: usize, n: usize) -> u32
+fn give_up(waits: &mut [u32; 512], at: usize, n: usize) -> u32
     requires { ⌜ (at < n) × (n ≤ 512) ⌝ }
     ensures { λ r. ⌜ (r ≡ word (now (waits .entry)) at) × (now (waits .exit) ≡ set (now (waits .entry)) at (word (now (waits .entry)) (n - 1))) ⌝ }
 {
@@ -89,35 +137,50 @@ fn give_up(waits: &mut [u32], at: usize, n: usize) -> u32
 // The search climbs to the part above: its siblings wait.
 fn climb(
     mem: &[u32],
-    k: usize,
     dx: &mut [u32],
-    keys: &mut [u32],
-    waits: &mut [u32],
+    keys: &mut [u32; 512],
+    waits: &mut [u32; 512],
+    places: &mut [u32; 128],
+    near: &mut [u32; 128],
+    asked: &mut [u32; 128],
     s: Search,
 ) -> Search
-    requires { ⌜ (s .best .len ≤ k) × (farCount (now keys) + s .waiting ≤ 512) × (length (now waits) ≡ 512) ⌝ }
-    ensures { λ r. ⌜ Shrunk k (now (keys .entry)) (now (waits .entry)) s (now (keys .exit)) (now (waits .exit)) r × ((m : Map) (fleet : State) (x : ℕ) (marks : List ℕ) → Genuine m fleet (now (mem .entry)) → x < m .vertices → Searching m fleet x k (now (dx .entry)) (now (keys .entry)) marks (now (waits .entry)) (s .part) (s .out) (s .waiting) (listIn (now (mem .entry)) (s .best)) → s .out < FAR → GoesOn m fleet x k (now (mem .entry)) (now (dx .exit)) (now (keys .exit)) marks (now (waits .exit)) r) ⌝ }
+    requires { ⌜ farCount (now keys) + s .waiting ≤ 512 ⌝ }
+    ensures { λ r. ⌜ Climbs (now (mem .entry)) (now (dx .entry)) (now (keys .entry)) (now (waits .entry)) s (now (dx .exit)) (now (keys .exit)) (now (waits .exit)) r ⌝ }
 {
     let part = s.part;
-    let best = s.best;
+    let len = s.len;
     let above = part_word(mem, wide(part), 0);
     if part <= above {
         return Search {
-            best: best,
+            len: len,
             part: part,
             out: s.out,
             waiting: s.waiting,
+            from: s.waiting,
             ended: true,
         };
     }
     lower(keys, wide(part), 0);
-    let n = open_up(mem, above, true, dx, keys, waits, s.waiting);
+    let n = open_up(
+        mem,
+        above,
+        true,
+        dx,
+        keys,
+        waits,
+        s.waiting,
+        places,
+        near,
+        asked,
+    );
     let out = bound_outside(mem, above, dx);
     Search {
-        best: best,
+        len: len,
         part: above,
         out: out,
         waiting: n,
+        from: n,
         ended: false,
     }
 }
@@ -127,35 +190,41 @@ fn take_waiting(
     mem: &[u32],
     k: usize,
     dx: &mut [u32],
-    keys: &mut [u32],
-    marks: &mut [u32],
-    waits: &mut [u32],
+    keys: &mut [u32; 512],
+    waits: &mut [u32; 512],
+    places: &mut [u32; 128],
+    near: &mut [u32; 128],
+    asked: &mut [u32; 128],
+    fars: &mut [u32; 32],
+    vans: &mut [u32; 32],
     s: Search,
     at: usize,
 ) -> Search
-    requires { ⌜ (s .best .len ≤ k) × (1 ≤ k) × (k ≤ 32) × (farCount (now keys) + s .waiting ≤ 512) × (length (now waits) ≡ 512) × (at < s .waiting) ⌝ }
-    ensures { λ r. ⌜ Shrunk k (now (keys .entry)) (now (waits .entry)) s (now (keys .exit)) (now (waits .exit)) r × ((m : Map) (fleet : State) (x : ℕ) → Genuine m fleet (now (mem .entry)) → x < m .vertices → Searching m fleet x k (now (dx .entry)) (now (keys .entry)) (now (marks .entry)) (now (waits .entry)) (s .part) (s .out) (s .waiting) (listIn (now (mem .entry)) (s .best)) → GoesOn m fleet x k (now (mem .entry)) (now (dx .exit)) (now (keys .exit)) (now (marks .exit)) (now (waits .exit)) r) ⌝ }
+    requires { ⌜ Stands k (now keys) (now fars) (now vans) s × (at < s .waiting) ⌝ }
+    ensures { λ r. ⌜ Goes (now (mem .entry)) k (now (dx .entry)) (now (keys .entry)) (now (waits .entry)) (now (fars .entry)) (now (vans .entry)) s (now (dx .exit)) (now (keys .exit)) (now (waits .exit)) (now (fars .exit)) (now (vans .exit)) r ⌝ }
 {
     let n = s.waiting;
-    let best = s.best;
+    let len = s.len;
     let q = give_up(waits, at, n);
     let left = n - 1;
     if part_word(mem, wide(q), 4) == 0 {
-        let found = take_leaf(mem, q, false, dx, marks, best, k);
+        let found = take_leaf(mem, q, dx, places, near, asked, fars, vans, len, k);
         return Search {
-            best: found,
+            len: found,
             part: s.part,
             out: s.out,
             waiting: left,
+            from: left,
             ended: false,
         };
     }
-    let more = open_up(mem, q, false, dx, keys, waits, left);
+    let more = open_up(mem, q, false, dx, keys, waits, left, places, near, asked);
     Search {
-        best: best,
+        len: len,
         part: s.part,
         out: s.out,
         waiting: more,
+        from: left,
         ended: false,
     }
 }
@@ -166,39 +235,62 @@ fn lesser(a: u32, b: u32) -> u32
     if a < b { a } else { b }
 }
 
-// One turn: the search ends where all that is left is farther than the limit, and only then; else it takes the nearest.
+// One turn. Where the last one opened up a part, the nearest of its children is taken: it is as near as the part was. Else the search ends
+// where all that is left is farther than the limit, and only then; else it takes the nearest.
 fn turn(
     mem: &[u32],
     k: usize,
     dx: &mut [u32],
-    keys: &mut [u32],
-    marks: &mut [u32],
-    waits: &mut [u32],
+    keys: &mut [u32; 512],
+    waits: &mut [u32; 512],
+    places: &mut [u32; 128],
+    near: &mut [u32; 128],
+    asked: &mut [u32; 128],
+    fars: &mut [u32; 32],
+    vans: &mut [u32; 32],
     s: Search,
 ) -> Search
-    requires { ⌜ (s .best .len ≤ k) × (1 ≤ k) × (k ≤ 32) × (farCount (now keys) + s .waiting ≤ 512) × (length (now waits) ≡ 512) ⌝ }
-    ensures { λ r. ⌜ Shrunk k (now (keys .entry)) (now (waits .entry)) s (now (keys .exit)) (now (waits .exit)) r × ((m : Map) (fleet : State) (x : ℕ) → Genuine m fleet (now (mem .entry)) → x < m .vertices → Searching m fleet x k (now (dx .entry)) (now (keys .entry)) (now (marks .entry)) (now (waits .entry)) (s .part) (s .out) (s .waiting) (listIn (now (mem .entry)) (s .best)) → GoesOn m fleet x k (now (mem .entry)) (now (dx .exit)) (now (keys .exit)) (now (marks .exit)) (now (waits .exit)) r) ⌝ }
+    requires { ⌜ Stands k (now keys) (now fars) (now vans) s ⌝ }
+    ensures { λ r. ⌜ Goes (now (mem .entry)) k (now (dx .entry)) (now (keys .entry)) (now (waits .entry)) (now (fars .entry)) (now (vans .entry)) s (now (dx .exit)) (now (keys .exit)) (now (waits .exit)) (now (fars .exit)) (now (vans .exit)) r ⌝ }
 {
     let n = s.waiting;
-    let best = s.best;
     let out = s.out;
-    let next = nearest_waiting(keys, waits, n);
-    let key = next.key;
-    let limit = best.limit(k);
-    if limit < lesser(out, key) {
-        return Search {
-            best: best,
-            part: s.part,
-            out: out,
-            waiting: n,
-            ended: true,
-        };
+    let len = s.len;
+    let child = nearest_waiting(keys, waits, s.from, n);
+    let mut at = child.at;
+    if FAR <= child.key {
+        let next = nearest_waiting(keys, waits, 0, n);
+        let key = next.key;
+        let limit = limit_of(fars, len, k);
+        if limit < lesser(out, key) {
+            return Search {
+                len: len,
+                part: s.part,
+                out: out,
+                waiting: n,
+                from: n,
+                ended: true,
+            };
+        }
+        if out <= key {
+            return climb(mem, dx, keys, waits, places, near, asked, s);
+        }
+        at = next.at;
     }
-    if out <= key {
-        return climb(mem, k, dx, keys, waits, s);
-    }
-    let at = next.at;
-    take_waiting(mem, k, dx, keys, marks, waits, s, at)
+    take_waiting(
+        mem,
+        k,
+        dx,
+        keys,
+        waits,
+        places,
+        near,
+        asked,
+        fars,
+        vans,
+        s,
+        at,
+    )
 }
 
 // Turn by turn, until the search has ended.
@@ -206,59 +298,76 @@ fn search_on(
     mem: &[u32],
     k: usize,
     dx: &mut [u32],
-    keys: &mut [u32],
-    marks: &mut [u32],
-    waits: &mut [u32],
+    keys: &mut [u32; 512],
+    waits: &mut [u32; 512],
+    places: &mut [u32; 128],
+    near: &mut [u32; 128],
+    asked: &mut [u32; 128],
+    fars: &mut [u32; 32],
+    vans: &mut [u32; 32],
     s: Search,
-) -> BestList
-    requires { ⌜ (s .best .len ≤ k) × (1 ≤ k) × (k ≤ 32) × (farCount (now keys) + s .waiting ≤ 512) × (length (now waits) ≡ 512) ⌝ }
-    ensures { λ r. ⌜ (r .len ≤ k) × ((m : Map) (fleet : State) (x : ℕ) → Genuine m fleet (now (mem .entry)) → x < m .vertices → GoesOn m fleet x k (now (mem .entry)) (now (dx .entry)) (now (keys .entry)) (now (marks .entry)) (now (waits .entry)) s → listIn (now (mem .entry)) r ≡ nearest m fleet x k) ⌝ }
+) -> usize
+    requires { ⌜ Stands k (now keys) (now fars) (now vans) s ⌝ }
+    ensures { λ r. ⌜ (r ≤ k) × ((m : Map) (fleet : State) (x : ℕ) → Genuine m fleet (now (mem .entry)) → x < m .vertices → GoesOn m fleet x k (now (mem .entry)) (now (dx .entry)) (now (keys .entry)) (now (waits .entry)) (now (fars .entry)) (now (vans .entry)) s → listOf (now (mem .entry)) (now (fars .exit)) (now (vans .exit)) r ≡ nearest m fleet x k) ⌝ }
 {
     let mut st = s;
     while !st.ended {
-        st = turn(mem, k, dx, keys, marks, waits, st);
+        st = turn(mem, k, dx, keys, waits, places, near, asked, fars, vans, st);
     }
-    st.best
+    st.len
 }
 
-// The search at x, with arrays that nothing was written to yet.
+// The search at x, with arrays that nothing was written to yet: how many vans are listed.
 fn search_at(
     mem: &[u32],
     x: u32,
     k: usize,
     dx: &mut [u32],
-    keys: &mut [u32],
-    marks: &mut [u32],
-    waits: &mut [u32],
-) -> BestList
-    requires { ⌜ (1 ≤ k) × (k ≤ 32) × Fresh (now dx) (now keys) (now marks) (now waits) ⌝ }
-    ensures { λ r. ⌜ (r .len ≤ k) × ((m : Map) (fleet : State) → Genuine m fleet (now (mem .entry)) → x < m .vertices → listIn (now (mem .entry)) r ≡ nearest m fleet x k) ⌝ }
+    keys: &mut [u32; 512],
+    waits: &mut [u32; 512],
+    places: &mut [u32; 128],
+    near: &mut [u32; 128],
+    asked: &mut [u32; 128],
+    fars: &mut [u32; 32],
+    vans: &mut [u32; 32],
+) -> usize
+    requires { ⌜ (1 ≤ k) × (k ≤ 32) × Fresh (now dx) (now keys) (now waits) × InOrder (now fars) (now vans) 0 ⌝ }
+    ensures { λ r. ⌜ (r ≤ k) × ((m : Map) (fleet : State) → Genuine m fleet (now (mem .entry)) → m .vertices ≤ length (now (dx .entry)) → x < m .vertices → listOf (now (mem .entry)) (now (fars .exit)) (now (vans .exit)) r ≡ nearest m fleet x k) ⌝ }
 {
-    let leaf = vertex_word(mem, counts_in(mem), x, 0);
+    let counts = counts_in(mem);
+    let leaf = vertex_word(mem, counts, x, 0);
+    let place = vertex_word(mem, counts, x, 1);
     put(dx, wide(x), 0);
-    let best = take_leaf(mem, leaf, true, dx, marks, BestList::empty(), k);
+    let len = own_leaf(mem, leaf, place, dx, asked, fars, vans, k);
     lower(keys, wide(leaf), 0);
     let out = bound_outside(mem, leaf, dx);
     let s = Search {
-        best: best,
+        len: len,
         part: leaf,
         out: out,
         waiting: 0,
+        from: 0,
         ended: false,
     };
-    search_on(mem, k, dx, keys, marks, waits, s)
+    search_on(mem, k, dx, keys, waits, places, near, asked, fars, vans, s)
 }
 
-// A search around x is likely to be short: where vans stand as in the leaf of x, k active vertices are among some 64.
+// For so few vans a search around x is tried.
+const FEW_ASKED: usize = 2;
+
+// A search around x is likely to be short: where vans stand as in the leaf of x, k active vertices are among some 8.
 fn close_by(mem: &[u32], x: u32, k: usize) -> bool
     requires { ⌜ k ≤ 32 ⌝ }
     ensures { λ r. ⌜ r ≡ closeBy (now (mem .entry)) x k ⌝ }
 {
+    if FEW_ASKED < k {
+        return false;
+    }
     let leaf = wide(vertex_word(mem, counts_in(mem), x, 0));
     let size = rows_in(mem, leaf);
     let first = wide(part_word(mem, leaf, 2));
     let active = active_rows(mem, first, size);
-    k * size <= 64 * active
+    k * size <= 8 * active
 }
 
 // The first k of all free vans that can reach x, in order of distance and then van number.
@@ -275,16 +384,49 @@ pub fn nearest_vans(mem: &[u32], x: u32, k: usize) -> BestList
     over_parts(mem, x, k)
 }
 
-// The same, by a search over the parts.
+// The same, by a search over the parts: with room for the distances of the map's vertices.
 fn over_parts(mem: &[u32], x: u32, k: usize) -> BestList
     requires { ⌜ (1 ≤ k) × (k ≤ 32) ⌝ }
     ensures { λ r. ⌜ (r .len ≤ k) × ((m : Map) (fleet : State) → Genuine m fleet (now (mem .entry)) → x < m .vertices → listIn (now (mem .entry)) r ≡ nearest m fleet x k) ⌝ }
 {
+    if word(mem, 2) <= FEW_VERTICES {
+        let mut dx = [FAR; 1024];
+        return search_with(mem, x, k, &mut dx);
+    }
     let mut dx = [FAR; 4096];
+    search_with(mem, x, k, &mut dx)
+}
+
+// The search with room for distances, none of which is known yet, and arrays of its own.
+fn search_with(mem: &[u32], x: u32, k: usize, dx: &mut [u32]) -> BestList
+    requires { ⌜ (1 ≤ k) × (k ≤ 32) × ((v : ℕ) → v < length (now dx) → word (now dx) v ≡ FAR) ⌝ }
+    ensures { λ r. ⌜ (r .len ≤ k) × ((m : Map) (fleet : State) → Genuine m fleet (now (mem .entry)) → m .vertices ≤ length (now (dx .entry)) → x < m .vertices → listIn (now (mem .entry)) r ≡ nearest m fleet x k) ⌝ }
+{
     let mut keys = [FAR; 512];
-    let mut marks = [0u32; 512];
     let mut waits = [0u32; 512];
-    search_at(mem, x, k, &mut dx, &mut keys, &mut marks, &mut waits)
+    let mut places = [0u32; 128];
+    let mut near = [0u32; 128];
+    let mut asked = [0u32; 128];
+    let mut fars = [0u32; 32];
+    let mut vans = [0u32; 32];
+    let len = search_at(
+        mem,
+        x,
+        k,
+        dx,
+        &mut keys,
+        &mut waits,
+        &mut places,
+        &mut near,
+        &mut asked,
+        &mut fars,
+        &mut vans,
+    );
+    BestList {
+        fars: fars,
+        vans: vans,
+        len: len,
+    }
 }
 
 // The list is written over the first words of the answer: van, distance and stamp of each.

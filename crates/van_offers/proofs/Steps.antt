@@ -1,4 +1,4 @@
--- The offers of a list of vans, one van at a time, and those of a leaf, one row at a time.
+-- The offers of a list of vans, one van at a time, and those of some rows, one row at a time.
 -- Assumes nothing.
 use mathlib.Core.Path.{_≡_, refl, sym, ap, _∙_}
 use mathlib.Core.Logic.{_≢_}
@@ -6,6 +6,8 @@ use mathlib.Core.List.{List, [], _∷_, _++_}
 use Prim.Native.Nat.{ℕ, zero, suc, _+_, _-_, _≤_, _<_, min}
 use native.Mathlib.Numerals.{add-one}
 use native.Mathlib.Omega.{arith}
+use lib.ListN.{length, take, length-take, drop-of-length-le}
+use lib.Seq.{slice, slice-cons}
 use borrow.Author.Tests.{lt-ltb, le-ltb}
 use Rattle.words.specs.Limits.{FAR}
 use Rattle.words.specs.Lists.{word}
@@ -14,7 +16,7 @@ use Rattle.places.specs.Place.{vertexAt, vanAt}
 use Rattle.fleet.specs.Question.{Listed}
 use Rattle.best_list.specs.Best.{listed, limitOf, offered, offeredAll}
 use Rattle.best_list.proofs.Pass.{offer-beyond}
-use Rattle.van_offers.specs.Offers.{stampIn, vanOffers, rowOwner, vertexOffers, leafOffers}
+use Rattle.van_offers.specs.Offers.{stampIn, vanOffers, rowOwner, vertexOffers, rowOffers}
 
 pub offered-append : (k : ℕ) (l a b : List Listed) → offeredAll k l (a ++ b) ≡ offeredAll k (offeredAll k l a) b
 unfolding offeredAll
@@ -68,18 +70,19 @@ module _ (mem : List ℕ) (counts : Counts) (near k : ℕ) (l : List Listed) whe
       ∙ vans-step left link van offset far next some real isVan isOffset isFar isNext
       ∙ rest
 
--- A leaf, row by row.
-module _ (mem : List ℕ) (counts : Counts) (first : ℕ) (dx : List ℕ) (k size i : ℕ) (h : i < size) (l target : List Listed)
-    (rest : offeredAll k l (leafOffers mem counts first dx (size - i) i) ≡ target) where
+-- Some rows, one after the other: row number t is row i.
+module _ (mem : List ℕ) (counts : Counts) (first : ℕ) (dx rows : List ℕ) (k count t : ℕ) (h : t < count) (all : count ≤ length rows) (l target : List Listed)
+    (rest : offeredAll k l (rowOffers mem counts first dx (slice t count rows)) ≡ target) {read i : ℕ} (isRead : read ≡ word rows t) (isRow : i ≡ read) where
   -- what is offered at row i, then the rows after it
-  next-row : offeredAll k (offeredAll k l (vertexOffers mem counts (rowOwner mem first i) (word dx (rowOwner mem first i)))) (leafOffers mem counts first dx (size - (i + 1)) (i + 1)) ≡ target
-  unfolding leafOffers
+  next-row : offeredAll k (offeredAll k l (vertexOffers mem counts (rowOwner mem first i) (word dx (rowOwner mem first i)))) (rowOffers mem counts first dx (slice (t + 1) count rows)) ≡ target
+  unfolding rowOffers
   next-row =
-      let fewer : size - i ≡ suc (size - (i + 1)) = omega arith in
-      sym (offered-append k l (vertexOffers mem counts (rowOwner mem first i) (word dx (rowOwner mem first i))) (leafOffers mem counts first dx (size - (i + 1)) (i + 1)))
-      ∙ (λ j. offeredAll k l (vertexOffers mem counts (rowOwner mem first i) (word dx (rowOwner mem first i)) ++ leafOffers mem counts first dx (size - (i + 1)) (add-one i j)))
-      ∙ ap (λ (n : ℕ). offeredAll k l (leafOffers mem counts first dx n i)) (sym fewer)
+      sym (offered-append k l (vertexOffers mem counts (rowOwner mem first i) (word dx (rowOwner mem first i))) (rowOffers mem counts first dx (slice (t + 1) count rows)))
+      ∙ ap (λ (r : List ℕ). offeredAll k l (rowOffers mem counts first dx r)) next
       ∙ rest
+    where
+      next : i ∷ slice (t + 1) count rows ≡ slice t count rows
+      next = (λ j. (isRow ∙ isRead) j ∷ slice (add-one t j) count rows) ∙ sym (slice-cons t count rows 0 h all)
 
   module _ {v w near : ℕ} (isOwner : v ≡ rowOwner mem first i) (isWide : w ≡ v) (isNear : near ≡ word dx w) where
     near-is : near ≡ word dx (rowOwner mem first i)
@@ -94,23 +97,23 @@ module _ (mem : List ℕ) (counts : Counts) (first : ℕ) (dx : List ℕ) (k siz
     unfolding vertexOffers
     some-near real = rw (lt-ltb (word dx (rowOwner mem first i)) FAR (omega (arith, near-is)))
 
-    pub leaf-skips : FAR ≤ near → offeredAll k l (leafOffers mem counts first dx (size - (i + 1)) (i + 1)) ≡ target
+    pub rows-skip : FAR ≤ near → offeredAll k l (rowOffers mem counts first dx (slice (t + 1) count rows)) ≡ target
     unfolding offeredAll
-    leaf-skips far =
-        ap (λ (es : List Listed). offeredAll k (offeredAll k l es) (leafOffers mem counts first dx (size - (i + 1)) (i + 1))) (sym (none-near far)) ∙ next-row
+    rows-skip far =
+        ap (λ (es : List Listed). offeredAll k (offeredAll k l es) (rowOffers mem counts first dx (slice (t + 1) count rows))) (sym (none-near far)) ∙ next-row
 
-    pub leaf-offers : {link : ℕ} {after : List Listed} → near < FAR → link ≡ word mem (vertexAt counts v + 4) → after ≡ offeredAll k l (vanOffers mem counts near 1024 link)
-        → offeredAll k after (leafOffers mem counts first dx (size - (i + 1)) (i + 1)) ≡ target
-    leaf-offers {link} {after} real isLink isAfter =
-        ap (λ (r : List Listed). offeredAll k r (leafOffers mem counts first dx (size - (i + 1)) (i + 1)))
+    pub rows-offer : {link : ℕ} {after : List Listed} → near < FAR → link ≡ word mem (vertexAt counts v + 4) → after ≡ offeredAll k l (vanOffers mem counts near 1024 link)
+        → offeredAll k after (rowOffers mem counts first dx (slice (t + 1) count rows)) ≡ target
+    rows-offer {link} {after} real isLink isAfter =
+        ap (λ (r : List Listed). offeredAll k r (rowOffers mem counts first dx (slice (t + 1) count rows)))
         (isAfter
         ∙ (λ j. offeredAll k l (vanOffers mem counts (near-is j) 1024 ((isLink ∙ ap (λ (u : ℕ). word mem (vertexAt counts u + 4)) isOwner) j)))
         ∙ ap (offeredAll k l) (sym (some-near real)))
         ∙ next-row
 
-pub leaf-done : (mem : List ℕ) (counts : Counts) (first : ℕ) (dx : List ℕ) (k size i : ℕ) → size ≤ i → (l target : List Listed)
-    → offeredAll k l (leafOffers mem counts first dx (size - i) i) ≡ target → l ≡ target
-unfolding leafOffers offeredAll
-leaf-done mem counts first dx k size i h l target rest =
-    let none : size - i ≡ 0 = omega arith in
-    ap (λ (n : ℕ). offeredAll k l (leafOffers mem counts first dx n i)) (sym none) ∙ rest
+pub rows-done : (mem : List ℕ) (counts : Counts) (first : ℕ) (dx rows : List ℕ) (k count t : ℕ) → count ≤ t → (l target : List Listed)
+    → offeredAll k l (rowOffers mem counts first dx (slice t count rows)) ≡ target → l ≡ target
+unfolding rowOffers offeredAll
+rows-done mem counts first dx rows k count t h l target rest =
+    let none : slice t count rows ≡ [] = drop-of-length-le (take count rows) {i = t} (omega (arith, length-take count rows)) in
+    ap (λ (r : List ℕ). offeredAll k l (rowOffers mem counts first dx r)) (sym none) ∙ rest

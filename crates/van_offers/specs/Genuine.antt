@@ -20,5 +20,8 @@ pub record Genuine (m : Map) (s : State) (mem : List ℕ) : Type 0 where
   pub is : mem ≡ image m s
 
 -- the entries of the best, with the stamps that the memory shows
+abbrev pub listOf : (mem fars vans : List ℕ) (len : ℕ) → List Listed
+listOf mem fars vans len = entries (stampIn mem (countsIn mem)) fars vans len
+
 abbrev pub listIn : List ℕ → BestList → List Listed
-listIn mem best = entries (stampIn mem (countsIn mem)) (best .fars) (best .vans) (best .len)
+listIn mem best = listOf mem (best .fars) (best .vans) (best .len)

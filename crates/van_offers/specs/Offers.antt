@@ -1,7 +1,7 @@
 -- The entries that a memory offers, in their order, whatever its words are.
-use Prim.Native.Nat.{ℕ, zero, suc, _+_, _*_, _%_, min}
 use mathlib.Core.Bool.{cond}
 use mathlib.Core.List.{List, [], _∷_, _++_}
+use Prim.Native.Nat.{ℕ, zero, suc, _+_, _*_, _%_, min}
 use lib.Dec.{ltb}
 use Rattle.words.specs.Limits.{FAR}
 use Rattle.words.specs.Lists.{word}
@@ -29,8 +29,7 @@ rowOwner mem first i = word mem (first + 4 * i + 2) % 65536
 unfoldable pub vertexOffers : List ℕ → Counts → ℕ → ℕ → List Listed
 vertexOffers mem counts v near = cond (ltb near FAR) (vanOffers mem counts near 1024 (word mem (vertexAt counts v + 4))) []
 
--- those of the vertices of n rows from row i on
-unfoldable pub leafOffers : List ℕ → Counts → ℕ → List ℕ → ℕ → ℕ → List Listed
-leafOffers mem counts first dx zero i = []
-leafOffers mem counts first dx (suc n) i =
-    vertexOffers mem counts (rowOwner mem first i) (word dx (rowOwner mem first i)) ++ leafOffers mem counts first dx n (suc i)
+-- those of the vertices of some rows, by their numbers
+unfoldable pub rowOffers : List ℕ → Counts → ℕ → List ℕ → List ℕ → List Listed
+rowOffers mem counts first dx [] = []
+rowOffers mem counts first dx (i ∷ rows) = vertexOffers mem counts (rowOwner mem first i) (word dx (rowOwner mem first i)) ++ rowOffers mem counts first dx rows

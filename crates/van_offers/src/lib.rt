@@ -1,5 +1,6 @@
-// The free vans that head for a vertex, and those that head into a leaf, offered to the list of the best.
-use best_list::BestList;
+// The free vans that head for a vertex, and those that head for the vertices of some rows, offered to the list of the best.
+use best_list::limit_of;
+use best_list::offer;
 use cells::wide;
 use cells::word;
 use counts::Counts;
@@ -9,10 +10,11 @@ use places::van_at;
 use places::vertex_at;
 ghost use mathlib.Core.Path.{_≡_};
 ghost use Prim.Native.Nat.{_+_, _*_, _≤_, _<_, _^_};
+ghost use lib.ListN.{length, take};
 ghost use Rattle.words.specs.Lists.{word};
 ghost use Rattle.places.specs.Place.{vertexAt, vanAt};
-ghost use Rattle.best_list.specs.Best.{entries, offeredAll};
-ghost use Rattle.van_offers.specs.Offers.{stampIn, vanOffers, leafOffers};
+ghost use Rattle.best_list.specs.Best.{entries, offeredAll, InOrder};
+ghost use Rattle.van_offers.specs.Offers.{stampIn, vanOffers, rowOffers};
 
 pub const MOST_VANS: u32 = 1024;
 
@@ -32,63 +34,67 @@ pub fn vertex_word(mem: &[u32], counts: Counts, vertex: u32, w: usize) -> u32
     word(mem, vertex_at(counts, vertex) + w)
 }
 
-// The list of vans that starts at a link, each at its offset beyond `near`.
+// The list of vans that starts at a link, each at its offset beyond `near`. How many are listed then.
 pub fn offer_vans(
     mem: &[u32],
     counts: Counts,
     first: u32,
     near: u32,
-    best: BestList,
+    fars: &mut [u32; 32],
+    vans: &mut [u32; 32],
+    len: usize,
     k: usize,
-) -> BestList
-    requires { ⌜ (best .len ≤ k) × (1 ≤ k) × (k ≤ 32) ⌝ }
-    ensures { λ r. ⌜ (r .len ≤ k) × (entries (stampIn (now (mem .entry)) counts) (r .fars) (r .vans) (r .len) ≡ offeredAll k (entries (stampIn (now (mem .entry)) counts) (best .fars) (best .vans) (best .len)) (vanOffers (now (mem .entry)) counts near 1024 first)) ⌝ }
+) -> usize
+    requires { ⌜ (len ≤ k) × (1 ≤ k) × (k ≤ 32) × InOrder (now fars) (now vans) len ⌝ }
+    ensures { λ r. ⌜ (r ≤ k) × InOrder (now (fars .exit)) (now (vans .exit)) r × (entries (stampIn (now (mem .entry)) counts) (now (fars .exit)) (now (vans .exit)) r ≡ offeredAll k (entries (stampIn (now (mem .entry)) counts) (now (fars .entry)) (now (vans .entry)) len) (vanOffers (now (mem .entry)) counts near 1024 first)) ⌝ }
 {
-    if best.limit(k) < near {
-        return best;
+    if limit_of(fars, len, k) < near {
+        return len;
     }
-    let mut list = best;
+    let mut n = len;
     let mut link = first;
     let mut left = MOST_VANS;
     while 0 < left {
         if link == 0 {
-            return list;
+            return n;
         }
         let van = link - 1;
         let far = far_sum(near, van_word(mem, counts, van, 2));
         let next = van_word(mem, counts, van, 4);
-        list = list.offer(k, far, van);
+        n = offer(fars, vans, n, k, far, van);
         link = next;
         left -= 1;
     }
-    list
+    n
 }
 
-// The vans of each of the leaf's vertices, whose rows start at `first`; `dx` has the vertices' distances.
-pub fn offer_leaf(
+// The vans of the vertices of some rows, of which `rows` has the numbers; `dx` has the vertices' distances.
+pub fn offer_rows(
     mem: &[u32],
     counts: Counts,
     first: usize,
-    size: usize,
+    rows: &[u32],
+    count: usize,
     dx: &[u32],
-    best: BestList,
+    fars: &mut [u32; 32],
+    vans: &mut [u32; 32],
+    len: usize,
     k: usize,
-) -> BestList
-    requires { ⌜ (best .len ≤ k) × (1 ≤ k) × (k ≤ 32) × (first < 2 ^ 32) × (size ≤ 128) ⌝ }
-    ensures { λ r. ⌜ (r .len ≤ k) × (entries (stampIn (now (mem .entry)) counts) (r .fars) (r .vans) (r .len) ≡ offeredAll k (entries (stampIn (now (mem .entry)) counts) (best .fars) (best .vans) (best .len)) (leafOffers (now (mem .entry)) counts first (now (dx .entry)) size 0)) ⌝ }
+) -> usize
+    requires { ⌜ (len ≤ k) × (1 ≤ k) × (k ≤ 32) × InOrder (now fars) (now vans) len × (first < 2 ^ 32) × (count ≤ length (now rows)) ⌝ }
+    ensures { λ r. ⌜ (r ≤ k) × InOrder (now (fars .exit)) (now (vans .exit)) r × (entries (stampIn (now (mem .entry)) counts) (now (fars .exit)) (now (vans .exit)) r ≡ offeredAll k (entries (stampIn (now (mem .entry)) counts) (now (fars .entry)) (now (vans .entry)) len) (rowOffers (now (mem .entry)) counts first (now (dx .entry)) (take count (now (rows .entry))))) ⌝ }
 {
-    let mut list = best;
-    let mut i = 0;
-    while i < size {
+    let mut list = len;
+    let mut t = 0;
+    while t < count {
+        let i = wide(word(rows, t));
         let v = word(mem, first + 4 * i + 2) % 65536;
         let near = word(dx, wide(v));
         if near < FAR {
             let link = vertex_word(mem, counts, v, 4);
-            if link != 0 {
-                list = offer_vans(mem, counts, link, near, list, k);
-            }
+            list = offer_vans(mem, counts, link, near, fars, vans, list, k);
         }
-        i += 1;
+        t += 1;
     }
     list
 }

@@ -1,46 +1,88 @@
 -- `relax_asked` makes the distances less, row by row.
 -- Assumes nothing.
-use mathlib.Core.Path.{_≡_, refl, _∙_}
-use Prim.Native.Nat.{ℕ, _-_, _≤_, _<_}
+use mathlib.Core.Path.{_∙_}
+use Prim.Native.Nat.{ℕ, _+_, _-_, _*_, _≤_, _<_}
 use native.Mathlib.Omega.{arith}
+use Rattle.words.specs.Lists.{word}
 use Rattle.part_bounds.specs.Bounds.{Among, Closer}
-use Rattle.part_bounds.proofs.Relaxing.{asked-row, closer-none, closer-more, closer-all, row-asks}
+use Rattle.part_bounds.proofs.Ways.{over-row, row-fits, cut-row, rows-fit, row-within}
+use Rattle.part_bounds.proofs.Relaxing.{owner-lowered, asked-row, known-few, closer-none, closer-next, closer-count}
 use borrow.Author.Needs.{needs}
 use Rattle.part_bounds.proofs.relax_asked.Statement.{statement}
 use Rattle.part_bounds.proofs.relax_asked.Tie as tie
 
 abbrev Inv-loop : tie.InvT-loop
-Inv-loop mem first table size all dx₀ places near known asked count t₀ dx t = (t ≤ count) × Closer mem first table size dx₀ (Among asked t) dx
+Inv-loop mem first table size dx₀ places near known asked count end rows t₀ dx t = (t ≤ count) × Closer mem first table size dx₀ (Among asked t) dx
 
 abbrev μ-loop : tie.MeasureT-loop
-μ-loop mem first table size all dx₀ places near known asked count t₀ dx t = count - t
+μ-loop mem first table size dx₀ places near known asked count end rows t₀ dx t = count - t
+
+-- the row that is asked for, and its words of the table
+within-row : (c : tie.After-wide Inv-loop μ-loop) → (c .wide .result < c .before .before .before .before .before .before .before .before .args .size) × (c .before .before .before .before .before .before .before .before .args .size * c .wide .result ≤ 16384) × (c .before .before .before .before .before .before .before .before .args .size * c .wide .result + c .before .before .before .before .before .before .before .before .args .size ≤ c .before .before .before .before .before .before .before .before .args .size * c .before .before .before .before .before .before .before .before .args .size)
+within-row c =
+    let here : c .wide .result < c .before .before .before .before .before .before .before .before .args .size = asked-row (c .before .before .before .before .before .before .before .before .pre .5 .1) (c .before .before .before .loop-test .taken) (c .wide .ensures ∙ c .before .word .ensures) in
+    let w = row-within (c .before .before .before .before .before .before .before .before .args .size) (c .wide .result) (c .before .before .before .before .before .before .before .before .pre .2) here in
+    (here, w .0, w .1)
+
+mul-at : tie.Need-mul-at Inv-loop μ-loop
+mul-at c = omega (arith, within-row c)
+
+add-at : tie.Need-add-at Inv-loop μ-loop
+add-at c = omega (arith, within-row c)
+
+add-past : tie.Need-add-past Inv-loop μ-loop
+add-past c = omega (arith, within-row c)
+
+mul-row : tie.Need-mul-row Inv-loop μ-loop
+mul-row c = omega (arith, within-row c)
+
+sub-row : tie.Need-sub-row Inv-loop μ-loop
+sub-row c = omega (arith, within-row c)
+
+part-row-start : tie.Need-part-row-start Inv-loop μ-loop
+part-row-start c = omega (arith, within-row c)
+
+part-row-end : tie.Need-part-row-end Inv-loop μ-loop
+part-row-end c = omega (arith, within-row c)
+
+mul-wide : tie.Need-mul-wide Inv-loop μ-loop
+mul-wide c = omega (arith, within-row (c .before .before .before .before .before))
+
+add-wide : tie.Need-add-wide Inv-loop μ-loop
+add-wide c = omega (arith, within-row (c .before .before .before .before .before))
+
+mul-wide-2 : tie.Need-mul-wide-2 Inv-loop μ-loop
+mul-wide-2 c = omega (arith, within-row (c .before .before .before .before .before))
 
 loop-holds : tie.Need-loop-holds Inv-loop μ-loop
-loop-holds c = (omega arith, closer-none (c .before .before .before .before .before .pre .3))
+loop-holds c = (omega arith, closer-none (λ i (s, h, e). absurd (omega arith)))
+
+least-in-requires : tie.Need-least-in-requires Inv-loop μ-loop
+least-in-requires c κs =
+    let w = within-row (c .before .before .before) in
+    let few = known-few (c .before .before .before .before .before .before .before .before .before .before .before .pre .5 .1) (c .before .before .before .before .before .before .before .before .before .before .before .pre .2) in
+    let at = c .before .before .before .before .before .before .before .before .before .before .before .args .table + c .before .before .before .before .before .before .before .before .before .before .before .args .size * c .before .before .before .wide .result in
+    (omega (arith, few, c .before .least-in-arg .given), omega (arith, few, c .least-in-arg2 .given), λ s hs. omega (arith, row-fits (c .before .before .before .before .before .before .before .before .before .before .before .args .mem .now) at (c .before .before .before .before .before .before .before .before .before .before .before .args .size) (omega arith), c .before .before .before .before .before .before .before .before .before .before .before .pre .5 .1 .knows .only s hs .0))
+
+shared-slice-read-wide : tie.Need-shared-slice-read-wide Inv-loop μ-loop
+shared-slice-read-wide c = omega (arith, within-row (c .before .before .before .before .before .before), rows-fit (c .before .before .before .before .before .before .before .before .before .before .before .before .before .before .args .mem .now) (c .before .before .before .before .before .before .before .before .before .before .before .before .before .before .args .first) (c .before .before .before .before .before .before .before .before .before .before .before .before .before .before .args .size) (c .before .before .before .before .before .before .before .before .before .before .before .before .before .before .pre .3))
 
 loop-again : tie.Need-loop-again Inv-loop μ-loop
-loop-again c = (
-  omega arith,
-  closer-more (c .before .before .before .before .before .before .before .before .before .before .before .before .before .before .before .before .pre .3) (c .before .before .before .before .before .before .before .before .before .before .loop .inv .1) (c .before .before .before .before .before .before .before .wide .ensures ∙ c .before .before .before .before .before .before .before .before .word .ensures) (c .before .before .before .before .before .before .row-way .ensures) (c .before .before .before .before .before .row-word .ensures) refl (c .before .before .before .wide2 .ensures) (c .before .before .lower .ensures),
-)
+loop-again c =
+    let l = c .before .before .before .before .before .before .before .before .before .before .before .before .before .before .before .before .before .before .pre .5 .1 in
+    let mem = c .before .before .before .before .before .before .before .before .before .before .before .before .before .before .before .before .before .before .args .mem .now in
+    let size = c .before .before .before .before .before .before .before .before .before .before .before .before .before .before .before .before .before .before .args .size in
+    let i = c .before .before .before .before .before .before .before .before .before .before .wide .result in
+    let at = c .before .before .before .before .before .before .before .before .before .before .before .before .before .before .before .before .before .before .args .table + size * i in
+    let w = within-row (c .before .before .before .before .before .before .before .before .before .before) in
+    let way-is = over-row mem at size (c .before .before .before .before .before .before .before .before .before .before .before .before .before .before .before .before .before .before .args .places .now) (c .before .before .before .before .before .before .before .before .before .before .before .before .before .before .before .before .before .before .args .near .now) (c .before .before .before .before .before .before .before .before .before .before .before .before .before .before .before .before .before .before .args .known) (cut-row mem at size) (λ s hs. l .knows .only s hs .0) (c .before .before .before .before .before .before .least-in .ensures) in
+    (omega arith, closer-next l (c .before .before .before .before .before .before .before .before .before .before .before .before .before .before .loop .inv .1) (c .before .before .before .before .before .before .before .before .before .before .wide .ensures ∙ c .before .before .before .before .before .before .before .before .before .before .before .word .ensures) way-is (owner-lowered mem (c .before .before .before .before .before .before .before .before .before .before .before .before .before .before .before .before .before .before .args .first) size i (c .before .before .before .before .before .before .before .before .before .before .before .before .before .before .loop .dx) (c .before .before .before .before .before .before .least-in .result) (w .0) (c .before .before .before .wide2 .ensures) (c .before .before .lower .ensures)))
 
 same-length : tie.Need-same-length Inv-loop μ-loop
 same-length c = c .before .loop .inv .1 .same-length
 
 returns : tie.Need-returns Inv-loop μ-loop
-returns c = closer-all (c .before .before .before .before .before .before .before .pre .3) (c .before .loop .inv .0) (c .loop-test .left) (c .before .loop .inv .1)
-
-mul-row-way : tie.Need-mul-row-way Inv-loop μ-loop
-mul-row-way c = omega (arith, asked-row (c .before .before .before .before .before .before .before .before .before .pre .3) (c .before .before .before .before .before .before .before .before .before .pre .2) (c .before .before .loop-test .taken) (c .wide .ensures ∙ c .before .word .ensures))
-
-add-row-way : tie.Need-add-row-way Inv-loop μ-loop
-add-row-way c = omega (arith, asked-row (c .before .before .before .before .before .before .before .before .before .pre .3) (c .before .before .before .before .before .before .before .before .before .pre .2) (c .before .before .loop-test .taken) (c .wide .ensures ∙ c .before .word .ensures))
-
-row-way-requires : tie.Need-row-way-requires Inv-loop μ-loop
-row-way-requires c κs = row-asks (c .before .before .before .before .before .before .before .before .before .pre .3) (c .before .before .before .before .before .before .before .before .before .pre .1) (c .before .before .before .before .before .before .before .before .before .pre .2) (c .before .before .loop-test .taken) (c .wide .ensures ∙ c .before .word .ensures)
-
-row-word-requires : tie.Need-row-word-requires Inv-loop μ-loop
-row-word-requires c κs = (c .before .before .before .before .before .before .before .before .before .before .pre .0, asked-row (c .before .before .before .before .before .before .before .before .before .before .pre .3) (c .before .before .before .before .before .before .before .before .before .before .pre .2) (c .before .before .before .loop-test .taken) (c .before .wide .ensures ∙ c .before .before .word .ensures) .1, omega arith)
+returns c = closer-count (c .before .before .before .before .before .args .asked .now) (omega arith) (c .before .loop .inv .1)
 
 pub relax-asked-spec : {M : Type 1} → statement M
 relax-asked-spec =
@@ -48,13 +90,27 @@ relax-asked-spec =
     (tie.spec
     Inv-loop
     μ-loop
+    (search needs)
+    (search needs)
+    (search needs)
+    (search needs)
+    (search needs)
+    (search needs)
     loop-holds
     (search needs)
     (search needs)
-    mul-row-way
-    add-row-way
-    row-way-requires
-    row-word-requires
+    mul-at
+    add-at
+    add-past
+    mul-row
+    sub-row
+    part-row-start
+    part-row-end
+    least-in-requires
+    mul-wide
+    add-wide
+    mul-wide-2
+    shared-slice-read-wide
     (search needs)
     (search needs)
     (search needs)

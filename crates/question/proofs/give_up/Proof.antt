@@ -1,4 +1,4 @@
--- `give_up` takes the part out of those that wait.
+-- `give_up` reads the part, and writes the last over its place.
 -- Assumes nothing.
 use Rattle.question.proofs.Calls.{given-up}
 use borrow.Author.Needs.{needs}
@@ -6,8 +6,14 @@ use Rattle.question.proofs.give_up.Statement.{statement}
 use Rattle.question.proofs.give_up.Tie as tie
 
 returns : tie.Need-returns
-returns c = given-up (c .before .before .before .before .before .before .before .before .before .args .waits .now) (c .before .before .before .before .before .before .before .before .before .args .at) (c .before .before .before .before .before .before .before .before .before .args .n) (c .before .before .before .before .before .before .word .ensures) (c .before .before .before .before .word2 .ensures) (c .before .before .put .ensures)
+returns c = given-up (c .before .before .before .before .before .before .before .before .args .waits .now) (c .before .before .before .before .before .before .before .before .args .at) (c .before .before .before .before .before .before .before .before .args .n) (c .before .before .before .before .before .word .ensures) (c .before .before .word2 .ensures) (c .put .ensures)
 
 pub give-up-spec : {M : Type 1} → statement M
 give-up-spec =
-    tie.close (tie.spec (search needs) (search needs) (search needs) (search needs) (search needs) returns)
+    tie.close
+    (tie.spec
+    (search needs)
+    (search needs)
+    (search needs)
+    (search needs)
+    returns)

@@ -1,15 +1,29 @@
--- `over_parts` searches with arrays of its own.
+-- `over_parts` searches with room for as many distances as the map has vertices.
 -- Assumes nothing.
-use Rattle.question.proofs.Calls.{fresh-arrays}
+use native.Mathlib.Omega.{arith}
+use lib.ListN.{length-replicate}
+use Prim.Native.Nat.{ℕ}
+use Rattle.words.specs.Limits.{FAR}
+use Rattle.van_offers.proofs.Shown.{vertices-read}
+use Rattle.question.proofs.Calls.{far-array}
 use borrow.Author.Needs.{needs}
 use Rattle.question.proofs.over_parts.Statement.{statement}
 use Rattle.question.proofs.over_parts.Tie as tie
 
-search-at-requires : tie.Need-search-at-requires
-search-at-requires c κs = (c .before .before .before .before .before .pre .0, c .before .before .before .before .before .pre .1, fresh-arrays)
+search-with-requires : tie.Need-search-with-requires
+search-with-requires c κs = (c .before .before .before .before .pre .0, c .before .before .before .before .pre .1, far-array 1024)
 
 returns : tie.Need-returns
-returns c = c .before .before .before .before .search-at .ensures
+returns c = (
+  c .before .search-with .ensures .0,
+  λ m fleet g hx. c .before .search-with .ensures .1 m fleet g (omega (arith, vertices-read g, c .before .before .before .before .word .ensures, c .before .before .before .if1 .taken, length-replicate {A = ℕ} 1024 FAR)) hx,
+)
+
+search-with-requires-2 : tie.Need-search-with-requires-2
+search-with-requires-2 c κs = (c .before .before .before .before .pre .0, c .before .before .before .before .pre .1, far-array 4096)
+
+returns-2 : tie.Need-returns-2
+returns-2 c = (c .before .search-with2 .ensures .0, λ m fleet g hx. c .before .search-with2 .ensures .1 m fleet g (omega (arith, g .sound .vertices, length-replicate {A = ℕ} 4096 FAR)) hx)
 
 pub over-parts-spec : {M : Type 1} → statement M
 over-parts-spec =
@@ -17,7 +31,8 @@ over-parts-spec =
     (tie.spec
     (search needs)
     (search needs)
+    search-with-requires
+    returns
     (search needs)
-    (search needs)
-    search-at-requires
-    returns)
+    search-with-requires-2
+    returns-2)

@@ -1,15 +1,15 @@
--- `take_leaf` looks at a leaf, once.
+-- `take_leaf` looks at a leaf.
 -- Assumes nothing.
-use Rattle.question.proofs.Calls.{leaf-left, leaf-looked}
+use Rattle.question.proofs.Calls.{leaf-looked}
 use borrow.Author.Needs.{needs}
 use Rattle.question.proofs.take_leaf.Statement.{statement}
 use Rattle.question.proofs.take_leaf.Tie as tie
 
-returns : tie.Need-returns
-returns c = leaf-left _ _ _ _ _ _ _ (c .before .before .before .wide .ensures) (c .before .word .ensures) (c .if1 .taken) (c .before .before .before .before .before .before .before .pre .0)
+offer-rows-requires : tie.Need-offer-rows-requires
+offer-rows-requires c κs = search needs
 
-returns-2 : tie.Need-returns-2
-returns-2 c = leaf-looked _ _ _ _ _ _ _ (c .before .before .before .before .before .before .before .before .before .before .before .before .before .before .before .before .before .wide .ensures) (c .before .before .before .before .before .before .before .before .before .before .before .before .before .before .before .word .ensures) (c .before .before .before .before .before .before .before .before .before .before .before .before .before .before .if1 .left) (c .before .before .before .before .before .before .before .before .before .before .before .before .relax .ensures) (c .before .before .before .before .before .before .before .before .put .ensures) (c .before .before .before .before .before .rows-in .ensures .0) (c .before .before .before .before .part-word .ensures) (c .before .before .before .wide2 .ensures) (c .before .before .counts-in .ensures) (c .offer-leaf .ensures .0) (c .offer-leaf .ensures .1)
+returns : tie.Need-returns
+returns c = leaf-looked _ _ _ _ _ _ _ (c .before .before .before .before .before .before .before .before .before .before .before .before .before .before .before .before .wide .ensures) (c .before .before .before .before .before .before .before .before .before .before .before .relax-leaf .ensures .1) (c .before .before .before .before .before .before .before .before .part-word .ensures) (c .before .before .before .before .before .before .before .wide2 .ensures) (c .before .before .before .before .before .before .counts-in .ensures) (c .offer-rows .ensures .0) (c .offer-rows .ensures .1) (c .offer-rows .ensures .2)
 
 pub take-leaf-spec : {M : Type 1} → statement M
 take-leaf-spec =
@@ -18,14 +18,8 @@ take-leaf-spec =
     (search needs)
     (search needs)
     (search needs)
-    returns
     (search needs)
     (search needs)
+    offer-rows-requires
     (search needs)
-    (search needs)
-    (search needs)
-    (search needs)
-    (search needs)
-    (search needs)
-    (search needs)
-    returns-2)
+    returns)
