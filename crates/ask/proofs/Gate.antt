@@ -17,7 +17,7 @@ use Rattle.roads.specs.Map.{Map}
 use Rattle.fleet.specs.State.{State}
 use Rattle.fleet.specs.Change.{accepted}
 use Rattle.fleet.specs.Question.{Listed, listedWords, nearest, questionInRange, questionRefusal, Replied, listInto, replyBy, reply}
-use Rattle.answers.specs.declared.Reply.the-variants.{Unopened, OutOfRange, TooSmall, Accepted}
+use Rattle.answers.specs.declared.Reply.the-variants.{NotOpened, OutOfRange, TooFewWords, Accepted}
 use Rattle.answers.specs.Answered.{answered}
 use Rattle.calls.specs.Head.{opened, usedOf, Shows}
 use Rattle.calls.specs.Outcome.{Asked}
@@ -48,7 +48,7 @@ module _ {m : Map} {s : State} {mem : List ℕ} (shows : Shows m s mem) where
   genuine-used used is = record { sound = shows .sound; good = shows .good; is = ap (λ (n : ℕ). take n mem) (is ∙ used-word shows) ∙ shows .words }
 
 module _ (mem : List ℕ) (x k : ℕ) (out : List ℕ) where
-  pub asked-unopened : opened mem ≡ false → Asked mem x k out (answered Unopened) out
+  pub asked-unopened : opened mem ≡ false → Asked mem x k out (answered NotOpened) out
   asked-unopened shut =
       record {
         screened = screened-unopened shut;
@@ -77,7 +77,7 @@ module _ (mem : List ℕ) (x k : ℕ) (out : List ℕ) where
     fits-in : (m : Map) (s : State) → Shows m s mem → questionInRange (m .vertices) x k ≡ true
     fits-in m s shows = ap (λ (v : ℕ). questionInRange v x k) (sym (vertices-word shows)) ∙ fits
 
-    pub asked-small : length out < 3 * k → Asked mem x k out (answered TooSmall) out
+    pub asked-small : length out < 3 * k → Asked mem x k out (answered TooFewWords) out
     asked-small small =
         record {
           screened = screened-neither there fits (λ six. omega arith, λ seven. omega arith);

@@ -32,15 +32,15 @@ fn refused_map(refusal: u32) -> Reply
     ensures { λ r. ⌜ (1 ≤ refusal → refusal ≤ 4 → answered r ≡ refused refusal) ⌝ }
 {
     if refusal == 1 {
-        return Reply::BadRecord;
+        return Reply::MapRecord;
     }
     if refusal == 2 {
-        return Reply::BadCounts;
+        return Reply::MapCounts;
     }
     if refusal == 3 {
-        return Reply::BadParts;
+        return Reply::MapParts;
     }
-    Reply::BadRoads
+    Reply::MapRoads
 }
 
 // A sound map, with its counts and its need.
@@ -50,7 +50,7 @@ fn open_sound(map: &[u8], counts: Counts, used: u32, memory: &mut [u32], start: 
 {
     let need = wide(used);
     if memory.len() < need {
-        return Reply::TooSmall;
+        return Reply::TooFewWords;
     }
     write_memory(map, counts, used, start, &mut memory[..need]);
     Reply::Accepted(start)
