@@ -1,8 +1,7 @@
 -- Within one opening no stamp is given twice: each is the change count of its moment.
 -- Assumes nothing.
-use mathlib.Core.Path.{_≡_, refl, sym, _∙_, subst}
+use mathlib.Core.Path.{_≡_, sym, subst}
 use mathlib.Core.Logic.{⊎-elim}
-use mathlib.Core.Bool.{true}
 use mathlib.Core.List.{List, [], _∷_, _++_}
 use Prim.Native.Nat.{ℕ, _+_, _≤_, _<_}
 use native.Mathlib.Omega.{arith}
@@ -11,7 +10,7 @@ use Rattle.words.proofs.Tests.{true-or-false}
 use Rattle.roads.specs.Map.{Map}
 use Rattle.fleet.specs.State.{State}
 use Rattle.fleet.specs.declared.Change.{Change}
-use Rattle.fleet.specs.Change.{refused, accepted, step}
+use Rattle.fleet.specs.Change.{refused, accepted}
 use Rattle.fleet.proofs.Stamps.{stamp-is-count}
 use Rattle.calls.specs.Head.{opened}
 use Rattle.calls.specs.Outcome.{Changed}

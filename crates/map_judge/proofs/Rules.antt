@@ -24,10 +24,9 @@ use Rattle.map_borders.specs.Mark.{fewAt}
 use Rattle.map_borders.specs.Sizes.{Given, Sizes}
 use Rattle.map_borders.proofs.Earlier.{told as known}
 use Rattle.map_borders.proofs.Borders.{borders-fit-is}
-use Rattle.map_judge.specs.declared.Judgement.the-variants.{Sound}
 use Rattle.map_judge.specs.Asked.{asked, Limited}
 use Rattle.map_judge.specs.Need.{needOf}
-use Rattle.map_judge.specs.Verdict.{told, ruled}
+use Rattle.map_judge.specs.Verdict.{needing, told, ruled}
 use Rattle.map_judge.proofs.Needs.{need-is}
 
 -- The rules.
@@ -58,11 +57,11 @@ each-few sizes n is e p h = leb-true (word sizes p) mostBorders (all-at (fewAt s
 
 -- the counts and the need of a map that keeps the rules
 pub sound-by : (m : Map) (v r p : ℕ) {words : ℕ} {parents leaves : List ℕ} (body sizes : List ℕ) → Shows m parents leaves v p → m .roads ≡ roadsOf r body → Sizes m sizes
-    → words ≡ needOf (asked v r p) sizes → Sound (record { vertices = v; roads = r; parts = p }) words ≡ told (verdict 0 m)
+    → words ≡ needOf (asked v r p) sizes → needing (record { vertices = v; roads = r; parts = p }) words ≡ told (verdict 0 m)
 sound-by m v r p {words} body sizes shows roads sized is =
     let isR : roadCount m ≡ r = ap length roads ∙ roads-length r body in
     let need : words ≡ _ = is ∙ need-is m v r p sizes (shows .vertexCount) isR (shows .count) sized in
-    λ i. Sound (record { vertices = sym (shows .vertexCount) i; roads = sym isR i; parts = sym (shows .count) i }) (need i)
+    λ i. needing (record { vertices = sym (shows .vertexCount) i; roads = sym isR i; parts = sym (shows .count) i }) (need i)
 
 -- The order of the records.
 

@@ -1,20 +1,20 @@
 -- What the bytes show, where the counts are known.
 -- Assumes nothing.
-use mathlib.Core.Path.{_≡_, refl, sym, ap, subst, subst⁻¹, _∙_}
-use mathlib.Core.Bool.{Bool, true, false, true≢false}
+use mathlib.Core.Path.{_≡_, refl, sym, ap, subst, _∙_}
+use mathlib.Core.Bool.{true}
 use mathlib.Core.List.{List}
 use Prim.Native.Nat.{ℕ}
-use lib.ListN.{length, drop}
+use lib.ListN.{drop}
 use lib.Dec.{leb}
 use borrow.Author.Tests.{leb-true}
 use Rattle.words.specs.Limits.{mostVertices, mostRoads, mostParts, NONE}
 use Rattle.words.specs.Tests.{within}
 use Rattle.words.proofs.Tests.{both-true, within-true}
-use Rattle.roads.specs.Map.{Map, partCount, roadCount}
+use Rattle.roads.specs.Map.{Map}
 use Rattle.maps.specs.Bytes.{Counts, countsOf, numberAt, roadsOf, decode}
 use Rattle.maps.specs.Rules.{countsFit}
 use Rattle.maps.specs.Judge.{sound, judge}
-use Rattle.maps.proofs.Judged.{numbers-length, number-is, roads-length, judged-shown}
+use Rattle.maps.proofs.Judged.{numbers-length, number-is, judged-shown}
 use Rattle.map_bytes.specs.Copied.{Copied}
 use Rattle.map_parts.specs.Part.{Shows}
 use Rattle.map_borders.specs.Sizes.{Given}
@@ -60,23 +60,3 @@ given-by bytes m v r p {parents} {leaves} judged is within shows roads =
       goodParts = shown .passes .parts;
       goodRoads = shown .passes .roads;
     }
-
--- its parents and leaves, and its roads, by its own counts
-pub shows-of : (bytes : List ℕ) (m : Map) (v r p : ℕ) {parents leaves : List ℕ} → judge bytes ≡ sound m → asked v r p ≡ countsOf bytes
-    → Shows (decode bytes (asked v r p)) parents leaves v p → Shows m parents leaves (m .vertices) (partCount m)
-shows-of bytes m v r p {parents} {leaves} judged is shows =
-    let same : decode bytes (asked v r p) ≡ m = ap (decode bytes) is ∙ judged-shown bytes m judged .map in
-    let of-m : Shows m parents leaves v p = subst (λ (k : Map). Shows k parents leaves v p) same shows in
-    subst⁻¹ (λ (n : ℕ). Shows m parents leaves n (partCount m)) (of-m .vertexCount) (subst⁻¹ (λ (n : ℕ). Shows m parents leaves v n) (of-m .count) of-m)
-
-pub roads-of : (bytes : List ℕ) (m : Map) (v r p : ℕ) {body : List ℕ} → judge bytes ≡ sound m → asked v r p ≡ countsOf bytes → body ≡ drop (roadsAt (asked v r p)) bytes
-    → m .roads ≡ roadsOf (roadCount m) body
-roads-of bytes m v r p {body} judged is roads =
-    let same : decode bytes (asked v r p) ≡ m = ap (decode bytes) is ∙ judged-shown bytes m judged .map in
-    let list : m .roads ≡ roadsOf r body = sym (ap (λ (k : Map). k .roads) same) ∙ roads-by bytes (asked v r p) roads in
-    list ∙ ap (λ (n : ℕ). roadsOf n body) (sym (ap length list ∙ roads-length r body))
-
--- bytes whose counts do not fit show no sound map
-pub not-judged : (bytes : List ℕ) (m : Map) (v r p : ℕ) {fit : Bool} → judge bytes ≡ sound m → asked v r p ≡ countsOf bytes → fit ≡ countsFit v r p → fit ≡ false → ⊥
-not-judged bytes m v r p judged is isFit failed =
-    true≢false (sym (ap (λ (c : Counts). countsFit (c .vertices) (c .roads) (c .parts)) is ∙ judged-shown bytes m judged .counts) ∙ sym isFit ∙ failed)

@@ -11,7 +11,6 @@ ghost use Prim.Native.Nat.{_≤_};
 ghost use lib.ListN.{length};
 ghost use Rattle.roads.specs.Map.{Map};
 ghost use Rattle.maps.specs.Judge.{sound, judge};
-ghost use Rattle.fleet.specs.Change.{refused};
 ghost use Rattle.fleet.specs.State.{freshState};
 ghost use Rattle.image.specs.Image.{image};
 ghost use Rattle.calls.specs.Outcome.{Opened};
@@ -25,22 +24,6 @@ fn write_memory(map: &[u8], counts: Counts, used: u32, start: u32, memory: &mut 
 {
     write_map(map, counts, used, start, memory);
     fill_tables(memory);
-}
-
-// The reply to a map with this refusal, 1 to 4.
-fn refused_map(refusal: u32) -> Reply
-    ensures { λ r. ⌜ (1 ≤ refusal → refusal ≤ 4 → answered r ≡ refused refusal) ⌝ }
-{
-    if refusal == 1 {
-        return Reply::MapRecord;
-    }
-    if refusal == 2 {
-        return Reply::MapCounts;
-    }
-    if refusal == 3 {
-        return Reply::MapParts;
-    }
-    Reply::MapRoads
 }
 
 // A sound map, with its counts and its need.
@@ -63,6 +46,6 @@ pub fn open(map: &[u8], memory: &mut [u32], start: u32) -> Reply
     let judgement = judge_map(map);
     match judgement {
         Judgement::Sound(counts, used) => open_sound(map, counts, used, memory, start),
-        Judgement::Refused(refusal) => refused_map(refusal),
+        Judgement::Refused(reply) => reply,
     }
 }
