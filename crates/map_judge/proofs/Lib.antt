@@ -1,4 +1,4 @@
 pub mod Shown
 pub mod Needs
 pub mod Rules
-pub mod Told
+pub mod Said

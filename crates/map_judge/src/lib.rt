@@ -20,7 +20,7 @@ ghost use Rattle.maps.specs.Judge.{restFits, judge};
 ghost use Rattle.map_parts.specs.Part.{Shows};
 ghost use Rattle.map_judge.specs.Asked.{asked, leavesAt, roadsAt, Limited};
 ghost use Rattle.map_judge.specs.Need.{needOf};
-ghost use Rattle.map_judge.specs.Verdict.{said, told, ruled};
+ghost use Rattle.map_judge.specs.Verdict.{said, due, ruled};
 
 const HEAD_WORDS: u32 = 64;
 
@@ -158,7 +158,7 @@ fn judge_shown(map: &[u8], counts: Counts) -> Judgement
 
 // Whether the bytes show a sound map, with its counts and its need; or the refusal that they get.
 pub fn judge_map(map: &[u8]) -> Judgement
-    ensures { λ r. ⌜ said r ≡ told (judge (now (map .entry))) ⌝ }
+    ensures { λ r. ⌜ said r ≡ due (judge (now (map .entry))) ⌝ }
 {
     if !is_record(map, 0, 1, 8) {
         return Judgement::Refused(Reply::MapRecord);

@@ -19,7 +19,7 @@ use Rattle.fleet.specs.Change.{Answer, refused, accepted}
 use Rattle.image.specs.Image.{image}
 use Rattle.calls.specs.Outcome.{openSound, openJudged, opening, Opened}
 use Rattle.counts.specs.declared.Counts.{Counts}
-use Rattle.map_judge.proofs.Told.{Accepts}
+use Rattle.map_judge.proofs.Said.{Accepts}
 use Rattle.opening_sections.specs.Counted.{Counted}
 
 -- by the judgement

@@ -1,6 +1,6 @@
 -- `open` goes by the judgement of the map.
 -- Assumes nothing.
-use Rattle.map_judge.proofs.Told.{said-sound, said-refused}
+use Rattle.map_judge.proofs.Said.{said-sound, said-refused}
 use Rattle.opening.proofs.Outcome.{counted, counts-small, opened-refused}
 use borrow.Author.Needs.{needs}
 use Rattle.opening.proofs.open.Statement.{statement}

@@ -13,7 +13,7 @@ use Rattle.answers.specs.declared.Reply.{Reply}
 use Rattle.answers.specs.Answered.{answered}
 use Rattle.map_judge.specs.declared.Judgement.{Judgement}
 use Rattle.map_judge.specs.declared.Judgement.the-variants.{Sound, Refused}
-use Rattle.map_judge.specs.Verdict.{refusal, needing, said, told}
+use Rattle.map_judge.specs.Verdict.{refusal, needing, said, due}
 
 -- they show a sound map with these counts and this need
 pub record Accepts (bytes : List ℕ) (counts : Counts) (words : ℕ) : Type 0 where
@@ -30,11 +30,11 @@ pub record Refuses (bytes : List ℕ) (reply : Reply) : Type 0 where
   pub judged : judge bytes ≡ Judged.refused number
   pub is : answered reply ≡ refused number
 
-module _ (bytes : List ℕ) (judgement : Judgement) (is : said judgement ≡ told (judge bytes)) where
+module _ (bytes : List ℕ) (judgement : Judgement) (is : said judgement ≡ due (judge bytes)) where
   pub said-sound : (counts : Counts) (words : ℕ) → judgement ≡ Sound counts words → Accepts bytes counts words
   said-sound counts words e = by (judge bytes) refl (sym is ∙ ap said e)
     where
-      by : (judged : Judged) → judge bytes ≡ judged → told judged ≡ needing counts words → Accepts bytes counts words
+      by : (judged : Judged) → judge bytes ≡ judged → due judged ≡ needing counts words → Accepts bytes counts words
       by (Judged.refused n) j same = let z : _≡_ {A = ℕ} 0 1 = cc in absurd (omega arith)
       by (sound m) j same =
           let here : (_≡_ {A = Counts} (record { vertices = m .vertices; roads = roadCount m; parts = partCount m }) counts) × (need m ≡ words) = ((cc), (cc)) in
@@ -50,6 +50,6 @@ module _ (bytes : List ℕ) (judgement : Judgement) (is : said judgement ≡ tol
   pub said-refused : (reply : Reply) → judgement ≡ Refused reply → Refuses bytes reply
   said-refused reply e = by (judge bytes) refl (sym is ∙ ap said e)
     where
-      by : (judged : Judged) → judge bytes ≡ judged → told judged ≡ refusal (answered reply) → Refuses bytes reply
+      by : (judged : Judged) → judge bytes ≡ judged → due judged ≡ refusal (answered reply) → Refuses bytes reply
       by (Judged.refused n) j same = let number : answered reply ≡ refused n = cc in record { number = n; judged = j; is = number }
       by (sound m) j same = let z : _≡_ {A = ℕ} 0 1 = cc in absurd (omega arith)
