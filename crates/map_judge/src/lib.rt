@@ -18,7 +18,7 @@ ghost use Rattle.roads.specs.Map.{Map};
 ghost use Rattle.maps.specs.Bytes.{countsOf, decode, roadsOf};
 ghost use Rattle.maps.specs.Judge.{restFits, judge};
 ghost use Rattle.map_parts.specs.Part.{Shows};
-ghost use Rattle.map_judge.specs.Asked.{asked, leavesAt, roadsAt, Limited};
+ghost use Rattle.map_judge.specs.Bodies.{theCounts, leavesBody, roadsBody, Limited};
 ghost use Rattle.map_judge.specs.Need.{needOf};
 ghost use Rattle.map_judge.specs.Verdict.{said, due, ruled};
 
@@ -35,7 +35,7 @@ pub enum Judgement {
 
 // The counts that record 1 shows.
 fn counts_of(map: &[u8]) -> Counts
-    ensures { λ r. ⌜ (asked (r .vertices) (r .roads) (r .parts) ≡ countsOf (now (map .entry))) × (r .vertices < 65536) × (r .roads < 65536) × (r .parts < 65536) ⌝ }
+    ensures { λ r. ⌜ (theCounts (r .vertices) (r .roads) (r .parts) ≡ countsOf (now (map .entry))) × (r .vertices < 65536) × (r .roads < 65536) × (r .parts < 65536) ⌝ }
 {
     let vertices = number2(map, 6);
     let roads = number2(map, 8);
@@ -50,7 +50,7 @@ fn counts_of(map: &[u8]) -> Counts
 // Records 2, 3 and 4 have the lengths that the counts ask for, and nothing follows.
 fn records_fit(map: &[u8], counts: Counts) -> bool
     requires { ⌜ (counts .vertices < 65536) × (counts .roads < 65536) × (counts .parts < 65536) ⌝ }
-    ensures { λ r. ⌜ r ≡ restFits (now (map .entry)) (asked (counts .vertices) (counts .roads) (counts .parts)) ⌝ }
+    ensures { λ r. ⌜ r ≡ restFits (now (map .entry)) (theCounts (counts .vertices) (counts .roads) (counts .parts)) ⌝ }
 {
     let vertices = counts.vertices;
     let roads = counts.roads;
@@ -75,22 +75,22 @@ fn records_fit(map: &[u8], counts: Counts) -> bool
 // Where the bodies of records 3 and 4 start.
 fn leaves_at(counts: Counts) -> usize
     requires { ⌜ counts .parts < 65536 ⌝ }
-    ensures { λ r. ⌜ r ≡ leavesAt (asked (counts .vertices) (counts .roads) (counts .parts)) ⌝ }
+    ensures { λ r. ⌜ r ≡ leavesBody (theCounts (counts .vertices) (counts .roads) (counts .parts)) ⌝ }
 {
     24 + 2 * (counts.parts as usize)
 }
 
 fn roads_at(counts: Counts) -> usize
     requires { ⌜ (counts .vertices < 65536) × (counts .parts < 65536) ⌝ }
-    ensures { λ r. ⌜ r ≡ roadsAt (asked (counts .vertices) (counts .roads) (counts .parts)) ⌝ }
+    ensures { λ r. ⌜ r ≡ roadsBody (theCounts (counts .vertices) (counts .roads) (counts .parts)) ⌝ }
 {
     30 + 2 * (counts.parts as usize) + 2 * (counts.vertices as usize)
 }
 
 // The words of memory that a map with these counts and so many rows in each part needs.
 fn need(counts: Counts, sizes: &[u32; 512]) -> u32
-    requires { ⌜ Limited (asked (counts .vertices) (counts .roads) (counts .parts)) × (length (now sizes) ≡ 512) × ((p : ℕ) → p < counts .parts → word (now sizes) p ≤ 128) ⌝ }
-    ensures { λ r. ⌜ r ≡ needOf (asked (counts .vertices) (counts .roads) (counts .parts)) (now (sizes .entry)) ⌝ }
+    requires { ⌜ Limited (theCounts (counts .vertices) (counts .roads) (counts .parts)) × (length (now sizes) ≡ 512) × ((p : ℕ) → p < counts .parts → word (now sizes) p ≤ 128) ⌝ }
+    ensures { λ r. ⌜ r ≡ needOf (theCounts (counts .vertices) (counts .roads) (counts .parts)) (now (sizes .entry)) ⌝ }
 {
     let vertices = counts.vertices;
     let roads = counts.roads;
@@ -107,7 +107,7 @@ fn need(counts: Counts, sizes: &[u32; 512]) -> u32
 
 // The judgement by the rules of the map with these parents, leaves and roads.
 fn judge_rules(parents: &[u32], leaves: &[u32], body: &[u8], counts: Counts) -> Judgement
-    requires { ⌜ Limited (asked (counts .vertices) (counts .roads) (counts .parts)) ⌝ }
+    requires { ⌜ Limited (theCounts (counts .vertices) (counts .roads) (counts .parts)) ⌝ }
     ensures { λ r. ⌜ ((m : Map) → Shows m (now (parents .entry)) (now (leaves .entry)) (counts .vertices) (counts .parts) → m .roads ≡ roadsOf (counts .roads) (now (body .entry)) → said r ≡ ruled m) ⌝ }
 {
     let vertices = counts.vertices;
@@ -138,8 +138,8 @@ fn judge_rules(parents: &[u32], leaves: &[u32], body: &[u8], counts: Counts) -> 
 
 // The parent of each part and the leaf of each vertex, as the bodies of records 2 and 3 show them.
 fn show_parts(map: &[u8], counts: Counts, parents: &mut [u32; 512], leaves: &mut [u32; 4096])
-    requires { ⌜ Limited (asked (counts .vertices) (counts .roads) (counts .parts)) × (length (now parents) ≡ 512) × (length (now leaves) ≡ 4096) ⌝ }
-    ensures { λ _. ⌜ (length (now (parents .exit)) ≡ 512) × (length (now (leaves .exit)) ≡ 4096) × Shows (decode (now (map .entry)) (asked (counts .vertices) (counts .roads) (counts .parts))) (now (parents .exit)) (now (leaves .exit)) (counts .vertices) (counts .parts) ⌝ }
+    requires { ⌜ Limited (theCounts (counts .vertices) (counts .roads) (counts .parts)) × (length (now parents) ≡ 512) × (length (now leaves) ≡ 4096) ⌝ }
+    ensures { λ _. ⌜ (length (now (parents .exit)) ≡ 512) × (length (now (leaves .exit)) ≡ 4096) × Shows (decode (now (map .entry)) (theCounts (counts .vertices) (counts .roads) (counts .parts))) (now (parents .exit)) (now (leaves .exit)) (counts .vertices) (counts .parts) ⌝ }
 {
     copy_numbers(rest(map, 18), counts.parts, parents);
     copy_numbers(rest(map, leaves_at(counts)), counts.vertices, leaves);
@@ -147,8 +147,8 @@ fn show_parts(map: &[u8], counts: Counts, parents: &mut [u32; 512], leaves: &mut
 
 // The judgement of a map whose records have the lengths that its counts ask for.
 fn judge_shown(map: &[u8], counts: Counts) -> Judgement
-    requires { ⌜ Limited (asked (counts .vertices) (counts .roads) (counts .parts)) ⌝ }
-    ensures { λ r. ⌜ said r ≡ ruled (decode (now (map .entry)) (asked (counts .vertices) (counts .roads) (counts .parts))) ⌝ }
+    requires { ⌜ Limited (theCounts (counts .vertices) (counts .roads) (counts .parts)) ⌝ }
+    ensures { λ r. ⌜ said r ≡ ruled (decode (now (map .entry)) (theCounts (counts .vertices) (counts .roads) (counts .parts))) ⌝ }
 {
     let mut parents: [u32; 512] = [0; 512];
     let mut leaves: [u32; 4096] = [0; 4096];
