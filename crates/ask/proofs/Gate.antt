@@ -16,7 +16,7 @@ use Rattle.words.proofs.Lists.{sum-same, gather-length}
 use Rattle.roads.specs.Map.{Map}
 use Rattle.fleet.specs.State.{State}
 use Rattle.fleet.specs.Change.{accepted}
-use Rattle.fleet.specs.Question.{Listed, listedWords, nearest, questionInRange, questionRefusal, Listing, listInto, replyBy, reply}
+use Rattle.fleet.specs.Question.{Listed, listedWords, nearest, questionInRange, questionRefusal, Response, listInto, replyBy, reply}
 use Rattle.answers.specs.declared.Reply.the-variants.{NotOpened, OutOfRange, TooFewWords, Accepted}
 use Rattle.answers.specs.Answered.{answered}
 use Rattle.calls.specs.Head.{opened, usedOf, Shows}
@@ -68,7 +68,7 @@ module _ (mem : List ℕ) (x k : ℕ) (out : List ℕ) where
         screened = screened-range there beyond;
         genuine = λ m s shows.
             let r = refused-reply m s 7 (ap (λ (b : Bool). 7 unless b then 5 unless leb (3 * k) (length out) then 0) (ap (λ (v : ℕ). questionInRange v x k) (sym (vertices-word shows)) ∙ beyond)) in
-            (ap (λ (p : Listing). p .answer) (sym r), ap (λ (p : Listing). p .words) (sym r));
+            (ap (λ (p : Response). p .answer) (sym r), ap (λ (p : Response). p .words) (sym r));
         refusal = λ n e. refl;
         size = refl;
       }
@@ -85,7 +85,7 @@ module _ (mem : List ℕ) (x k : ℕ) (out : List ℕ) where
               let r = refused-reply m s 5
               (ap (λ (b : Bool). 7 unless b then 5 unless leb (3 * k) (length out) then 0) (fits-in m s shows)
               ∙ ap (λ (b : Bool). 5 unless b then 0) (lt-leb (3 * k) (length out) small)) in
-              (ap (λ (p : Listing). p .answer) (sym r), ap (λ (p : Listing). p .words) (sym r));
+              (ap (λ (p : Response). p .answer) (sym r), ap (λ (p : Response). p .words) (sym r));
           refusal = λ n e. refl;
           size = refl;
         }
@@ -128,6 +128,6 @@ module _ (mem : List ℕ) (x k : ℕ) (out : List ℕ) where
             let same = right m s (genuine-used shows used isUsed) (asked-few (m .vertices) x k inside .0) in
             let r = refused-reply m s 0
             (ap (λ (b : Bool). 7 unless b then 5 unless leb (3 * k) (length out) then 0) inside ∙ ap (λ (b : Bool). 5 unless b then 0) (le-leb (3 * k) (length out) enough)) in (
-              ap accepted (sym list-length) ∙ ap (λ (l : List Listed). listInto l out .answer) same ∙ ap (λ (p : Listing). p .answer) (sym r),
-              isOut ∙ ap (λ (l : List Listed). listInto l out .words) same ∙ ap (λ (p : Listing). p .words) (sym r),
+              ap accepted (sym list-length) ∙ ap (λ (l : List Listed). listInto l out .answer) same ∙ ap (λ (p : Response). p .answer) (sym r),
+              isOut ∙ ap (λ (l : List Listed). listInto l out .words) same ∙ ap (λ (p : Response). p .words) (sym r),
             )
