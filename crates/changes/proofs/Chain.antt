@@ -8,7 +8,7 @@ use lib.ListN.{set}
 use borrow.Author.Tests.{eq-eqb, ne-eqb}
 use Rattle.words.specs.Limits.{lastCount}
 use Rattle.words.specs.Lists.{word}
-use Rattle.answers.specs.declared.Reply.the-variants.{Accepted, CountUsedUp}
+use Rattle.answers.specs.declared.Reply.the-variants.{Accepted, CountFull}
 use Rattle.counts.specs.declared.Counts.{Counts}
 use Rattle.fleet.specs.State.{absent}
 use Rattle.van_lists.specs.declared.VanWords.{VanWords}
@@ -58,7 +58,7 @@ module _ (mem : List ℕ) (counts : Counts) (van : ℕ) (old new : VanWords) (fr
   makes-written was-not is-not e = rw (ne-eqb (old .state) 1 was-not, ne-eqb (new .state) 1 is-not) e
 
 module _ (mem : List ℕ) (counts : Counts) (van : ℕ) (old new : VanWords) (count : ℕ) (is : count ≡ word mem 5) where
-  pub last-answer : count ≡ lastCount → CountUsedUp ≡ counted (word mem 5)
+  pub last-answer : count ≡ lastCount → CountFull ≡ counted (word mem 5)
   last-answer last = rw (eq-eqb (word mem 5) lastCount (sym is ∙ last))
 
   pub last-words : count ≡ lastCount → mem ≡ settled mem counts van old new

@@ -12,7 +12,7 @@ use Rattle.words.specs.Lists.{word}
 use Rattle.roads.specs.Map.{Map}
 use Rattle.maps.specs.Sound.{Sound}
 use Rattle.answers.specs.declared.Reply.{Reply}
-use Rattle.answers.specs.declared.Reply.the-variants.{Accepted, CountUsedUp}
+use Rattle.answers.specs.declared.Reply.the-variants.{Accepted, CountFull}
 use Rattle.answers.specs.Answered.{answered}
 use Rattle.counts.specs.declared.Counts.{Counts}
 use Rattle.places.specs.Place.{countsIn}
@@ -76,7 +76,7 @@ module _ (mem : List ℕ) (c : Change) (counts : Counts) (van : ℕ) (old : VanW
 
   module _ (w : VanWords) (is : verdict ≡ Stand w) (r : Reply) (after : List ℕ)
       (answer : r ≡ counted (word mem 5)) (words : after ≡ settled mem counts van old w) where
-    used-up : word mem 5 ≡ lastCount → (r ≡ CountUsedUp) × (after ≡ mem)
+    used-up : word mem 5 ≡ lastCount → (r ≡ CountFull) × (after ≡ mem)
     unfolding settled
     used-up last = (answer ∙ rw (eq-eqb (word mem 5) lastCount last), words ∙ rw (eq-eqb (word mem 5) lastCount last))
 
@@ -96,7 +96,7 @@ module _ (mem : List ℕ) (c : Change) (counts : Counts) (van : ℕ) (old : VanW
         refuses last =
             let none : countLeft s ≡ false = ap not (eq-eqb (s .count) lastCount last) in
             let by : step m s c ≡ stepBy 15 m s c = step-by m s c 15 (a .0 ∙ simp none) in
-            let kept : (r ≡ CountUsedUp) × (after ≡ mem) = used-up (count ∙ last) in
+            let kept : (r ≡ CountFull) × (after ≡ mem) = used-up (count ∙ last) in
             (ap answered (kept .0) ∙ ap (λ (k : Stepped). k .answer) (sym by), kept .1 ∙ e ∙ ap (λ (k : Stepped). image m (k .state)) (sym by))
 
         accepts : (s .count ≡ lastCount → ⊥) → (answered r ≡ step m s c .answer) × (after ≡ image m (step m s c .state))

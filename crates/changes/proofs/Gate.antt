@@ -12,7 +12,7 @@ use Rattle.words.specs.Limits.{vans, mostDesk}
 use Rattle.words.proofs.Tests.{clash, both-true, within-true}
 use Rattle.roads.specs.Map.{Map}
 use Rattle.parts.specs.Size.{need}
-use Rattle.answers.specs.declared.Reply.the-variants.{Unopened, OutOfRange}
+use Rattle.answers.specs.declared.Reply.the-variants.{NotOpened, OutOfRange}
 use Rattle.answers.specs.Answered.{answered}
 use Rattle.fleet.specs.State.{State}
 use Rattle.fleet.specs.declared.Change.{Change}
@@ -60,7 +60,7 @@ module _ (c : Change) (mem : List ℕ) where
   whole : (m : Map) (s : State) → Shows m s mem → mem ≡ image m s ++ drop (need m) mem
   whole m s shows = sym (take-append-drop (need m) mem) ∙ ap (λ (l : List ℕ). l ++ drop (need m) mem) (shows .words)
 
-  pub changed-unopened : opened mem ≡ false → Changed c mem (answered Unopened) mem
+  pub changed-unopened : opened mem ≡ false → Changed c mem (answered NotOpened) mem
   changed-unopened shut =
       record {
         screened = screened-unopened shut;

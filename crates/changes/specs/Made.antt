@@ -7,7 +7,7 @@ use lib.Dec.{eqb}
 use Rattle.words.specs.Limits.{lastCount}
 use Rattle.words.specs.Lists.{word}
 use Rattle.answers.specs.declared.Reply.{Reply}
-use Rattle.answers.specs.declared.Reply.the-variants.{Accepted, CountUsedUp}
+use Rattle.answers.specs.declared.Reply.the-variants.{Accepted, CountFull}
 use Rattle.counts.specs.declared.Counts.{Counts}
 use Rattle.places.specs.Place.{vertexAt}
 use Rattle.fleet.specs.State.{absent}
@@ -48,7 +48,7 @@ made mem counts van old new =
 
 -- the answer to a change that nothing but the change count can refuse, and what it leaves
 abbrev pub counted : ℕ → Reply
-counted count = cond (eqb count lastCount) CountUsedUp (Accepted (count + 1))
+counted count = cond (eqb count lastCount) CountFull (Accepted (count + 1))
 
 unfoldable pub settled : List ℕ → Counts → ℕ → (old new : VanWords) → List ℕ
 settled mem counts van old new = cond (eqb (word mem 5) lastCount) mem (made (set mem 5 (word mem 5 + 1)) counts van old (stamped new (word mem 5 + 1)))

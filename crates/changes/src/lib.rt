@@ -94,7 +94,7 @@ fn settle(mem: &mut [u32], counts: Counts, van: u32, old: VanWords, new: VanWord
 {
     let count = word(mem, 5);
     if count == VanWords::LAST_STAMP {
-        return Reply::CountUsedUp;
+        return Reply::CountFull;
     }
     put(mem, 5, count + 1);
     make(mem, counts, van, old, new.stamped(count + 1));
@@ -158,7 +158,7 @@ pub fn change(mem: &mut [u32], change: Change) -> Reply
     ensures { λ r. ⌜ Changed change (now (mem .entry)) (answered r) (now (mem .exit)) ⌝ }
 {
     if !opened_head(mem) {
-        return Reply::Unopened;
+        return Reply::NotOpened;
     }
     if !in_range(change) {
         return Reply::OutOfRange;

@@ -1,6 +1,6 @@
 -- An accepted change adds 1 to the change count, and the new count is its stamp.
 -- Assumes nothing.
-use mathlib.Core.Path.{_≡_, refl}
+use mathlib.Core.Path.{_≡_}
 use Prim.Native.Nat.{ℕ, zero, suc, _+_}
 use native.Mathlib.Omega.{arith}
 use Rattle.roads.specs.Map.{Map}

@@ -6,7 +6,7 @@ use mathlib.Core.List.{List}
 use Prim.Native.Nat.{ℕ, _+_}
 use lib.Dec.{leb, ltb, eqb}
 use Rattle.words.specs.Lists.{word}
-use Rattle.answers.specs.declared.Reply.the-variants.{NoVan, AlreadyPresent, NoRoad, OffsetAboveWeight, Held, NotHeldByDesk, StampDiffers}
+use Rattle.answers.specs.declared.Reply.the-variants.{NoSuchVan, VanPresent, NoRoad, OffsetAboveWeight, VanHeld, NotHeldByDesk, StampDiffers}
 use Rattle.counts.specs.declared.Counts.{Counts}
 use Rattle.places.specs.Place.{roadAt}
 use Rattle.fleet.specs.State.{absent}
@@ -36,24 +36,24 @@ placing state roads road weight offset =
     (cond (ltb weight offset) (Refuse OffsetAboveWeight) (Stand (record { state = state; road = road; offset = offset; stamp = 0 })))
 
 abbrev pub adding : (old : VanWords) (roads road weight offset : ℕ) → Verdict
-adding old roads road weight offset = cond (eqb (old .state) 0) (placing 1 roads road weight offset) (Refuse AlreadyPresent)
+adding old roads road weight offset = cond (eqb (old .state) 0) (placing 1 roads road weight offset) (Refuse VanPresent)
 
 abbrev pub moving : (old : VanWords) (roads road weight offset : ℕ) → Verdict
-moving old roads road weight offset = cond (eqb (old .state) 0) (Refuse NoVan) (placing (old .state) roads road weight offset)
+moving old roads road weight offset = cond (eqb (old .state) 0) (Refuse NoSuchVan) (placing (old .state) roads road weight offset)
 
 abbrev pub removing : VanWords → Verdict
-removing old = cond (eqb (old .state) 0) (Refuse NoVan) (cond (ltb 1 (old .state)) (Refuse Held) (Stand (wordsOf absent)))
+removing old = cond (eqb (old .state) 0) (Refuse NoSuchVan) (cond (ltb 1 (old .state)) (Refuse VanHeld) (Stand (wordsOf absent)))
 
 abbrev pub claiming : (old : VanWords) (stamp desk : ℕ) → Verdict
 claiming old stamp desk =
-    cond (eqb (old .state) 0) (Refuse NoVan)
+    cond (eqb (old .state) 0) (Refuse NoSuchVan)
     (cond (eqb (old .state) 1)
     (cond (eqb (old .stamp) stamp) (Stand (record { state = desk + 1; road = old .road; offset = old .offset; stamp = 0 })) (Refuse StampDiffers))
-    (Refuse Held))
+    (Refuse VanHeld))
 
 abbrev pub releasing : (old : VanWords) (desk : ℕ) → Verdict
 releasing old desk =
-    cond (eqb (old .state) 0) (Refuse NoVan)
+    cond (eqb (old .state) 0) (Refuse NoSuchVan)
     (cond (eqb (old .state) (desk + 1)) (Stand (record { state = 1; road = old .road; offset = old .offset; stamp = 0 })) (Refuse NotHeldByDesk))
 
 -- a verdict on a road that is found: `by` is what its number and its weight come to

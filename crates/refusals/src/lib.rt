@@ -46,7 +46,7 @@ fn adding(old: VanWords, roads: u32, road: u32, weight: u32, offset: u32) -> Ver
     ensures { λ r. ⌜ r ≡ adding old roads road weight offset ⌝ }
 {
     if old.state != 0 {
-        return Verdict::Refuse(Reply::AlreadyPresent);
+        return Verdict::Refuse(Reply::VanPresent);
     }
     placing(VanWords::FREE, roads, road, weight, offset)
 }
@@ -55,7 +55,7 @@ fn moving(old: VanWords, roads: u32, road: u32, weight: u32, offset: u32) -> Ver
     ensures { λ r. ⌜ r ≡ moving old roads road weight offset ⌝ }
 {
     if old.state == 0 {
-        return Verdict::Refuse(Reply::NoVan);
+        return Verdict::Refuse(Reply::NoSuchVan);
     }
     placing(old.state, roads, road, weight, offset)
 }
@@ -64,10 +64,10 @@ fn removing(old: VanWords) -> Verdict
     ensures { λ r. ⌜ r ≡ removing old ⌝ }
 {
     if old.state == 0 {
-        return Verdict::Refuse(Reply::NoVan);
+        return Verdict::Refuse(Reply::NoSuchVan);
     }
     if VanWords::FREE < old.state {
-        return Verdict::Refuse(Reply::Held);
+        return Verdict::Refuse(Reply::VanHeld);
     }
     Verdict::Stand(VanWords::ABSENT)
 }
@@ -77,10 +77,10 @@ fn claiming(old: VanWords, stamp: u32, desk: u32) -> Verdict
     ensures { λ r. ⌜ r ≡ claiming old stamp desk ⌝ }
 {
     if old.state == 0 {
-        return Verdict::Refuse(Reply::NoVan);
+        return Verdict::Refuse(Reply::NoSuchVan);
     }
     if old.state != VanWords::FREE {
-        return Verdict::Refuse(Reply::Held);
+        return Verdict::Refuse(Reply::VanHeld);
     }
     if old.stamp != stamp {
         return Verdict::Refuse(Reply::StampDiffers);
@@ -98,7 +98,7 @@ fn releasing(old: VanWords, desk: u32) -> Verdict
     ensures { λ r. ⌜ r ≡ releasing old desk ⌝ }
 {
     if old.state == 0 {
-        return Verdict::Refuse(Reply::NoVan);
+        return Verdict::Refuse(Reply::NoSuchVan);
     }
     if old.state != desk + 1 {
         return Verdict::Refuse(Reply::NotHeldByDesk);
