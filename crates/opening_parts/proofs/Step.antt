@@ -20,7 +20,8 @@ use Rattle.words.proofs.Ranks.{keep-none, keep-split}
 use Rattle.roads.specs.Map.{Map, partCount}
 use Rattle.parts.specs.Tree.{parentOf, children}
 use Rattle.parts.specs.Size.{sizeOf, tableWordsBelow, tableWords, rowsBelow, rowCount}
-use Rattle.image.specs.Places.{partsAt, rowsAt, tablesAt, tableOf, firstRowOf}
+use Rattle.layout.specs.Layout.{partsAt}
+use Rattle.image.specs.Places.{rowsAt, tablesAt, tableOf, firstRowOf}
 use Rattle.image.specs.Image.{nextSibling, partRecord}
 use Rattle.image.proofs.Records.{rows-start, rows-end}
 use Rattle.records.specs.Written.{Written}

@@ -8,7 +8,8 @@ use Rattle.words.specs.Lists.{word}
 use Rattle.roads.specs.Map.{Map, partCount}
 use Rattle.parts.specs.Tree.{parentOf}
 use Rattle.parts.specs.Size.{sizeOf, need}
-use Rattle.image.specs.Places.{partsAt, rowsAt}
+use Rattle.layout.specs.Layout.{partsAt}
+use Rattle.image.specs.Places.{rowsAt}
 use Rattle.image.specs.Image.{partRecord}
 use Rattle.map_shown.specs.Shown.{ShowsParents, ShowsSizes}
 use Rattle.records.specs.Written.{Written}

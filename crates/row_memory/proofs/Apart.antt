@@ -39,7 +39,7 @@ module _ (m : Map) (p : ℕ) (hp : p < partCount m) where
   part-before = omega arith
 
 pub itself-before : (m : Map) (u : ℕ) → u < m .vertices → itselfAt m u + 3 ≤ rowsAt m
-unfolding itselfAt rowsAt tablesAt vansAt roadsAt
+unfolding itselfAt rowsAt tablesAt vansAt roadsAt verticesAt
 itself-before m u h = omega arith
 
 -- What stands before the rows of all parts, in other parts' rows, or in word 2 or 3 of a row, is outside what a part's rows show.
