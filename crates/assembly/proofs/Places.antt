@@ -17,7 +17,7 @@ use Rattle.image.specs.Places.{verticesAt, roadsAt, tablesAt, rowsAt, tableOf, 
 use Rattle.image.specs.Records.{rowVertex}
 use Rattle.image.proofs.Records.{vertices-start, roads-start, vans-start, tables-start, rows-start}
 use Rattle.table_rows.proofs.Rows.{places-differ}
-use Rattle.assembly.specs.Laid.{Laid, Outside}
+use Rattle.assembly.specs.Laid.{LaidForTables, OutsideTables}
 
 module _ (m : Map) where
   -- ---- tables
@@ -64,19 +64,19 @@ module _ (m : Map) where
 
   -- ---- outside the tables
 
-  pub head-outside : (x : ℕ) → x < 64 → Outside m x
+  pub head-outside : (x : ℕ) → x < 64 → OutsideTables m x
   head-outside x h = inl (omega (arith, vertices-start m, roads-start m, vans-start m, tables-start m))
 
-  pub part-outside : (p w : ℕ) → p < partCount m → w < 8 → Outside m (64 + 8 * p + w)
+  pub part-outside : (p w : ℕ) → p < partCount m → w < 8 → OutsideTables m (64 + 8 * p + w)
   part-outside p w hp hw = inl (omega (arith, roads-start m, vans-start m, tables-start m))
 
-  pub vertex-outside : (v w : ℕ) → v < m .vertices → w < 8 → Outside m (verticesAt m + 8 * v + w)
+  pub vertex-outside : (v w : ℕ) → v < m .vertices → w < 8 → OutsideTables m (verticesAt m + 8 * v + w)
   vertex-outside v w hv hw = inl (omega (arith, vertices-start m, roads-start m, vans-start m, tables-start m))
 
-  pub road-outside : (r w : ℕ) → r < roadCount m → w < 4 → Outside m (roadsAt m + 4 * r + w)
+  pub road-outside : (r w : ℕ) → r < roadCount m → w < 4 → OutsideTables m (roadsAt m + 4 * r + w)
   road-outside r w hr hw = inl (omega (arith, vans-start m, tables-start m))
 
-  pub row-outside : (p x : ℕ) → Outside m (firstRowOf m p + x)
+  pub row-outside : (p x : ℕ) → OutsideTables m (firstRowOf m p + x)
   unfolding firstRowOf
   row-outside p x = inr (omega arith)
 
@@ -90,8 +90,8 @@ module _ (m : Map) where
   row-real p i h = row-vertex m p (rowVertex m p i) (row-is p i h)
 
 -- What filling reads stays where no word outside the tables changes.
-module _ (m : Map) (before after : List ℕ) (sized : length after ≡ length before) (same : (x : ℕ) → Outside m x → word after x ≡ word before x) where
-  pub laid-kept : Laid m before → Laid m after
+module _ (m : Map) (before after : List ℕ) (sized : length after ≡ length before) (same : (x : ℕ) → OutsideTables m x → word after x ≡ word before x) where
+  pub laid-kept : LaidForTables m before → LaidForTables m after
   laid-kept L = record {
     sound = L .sound;
     fits = omega (arith, L .fits);
@@ -118,5 +118,5 @@ module _ (m : Map) (before after : List ℕ) (sized : length after ≡ length be
       plus-none : (x : ℕ) → x ≡ x + 0
       plus-none x = omega arith
 
-      moved : (a b w : ℕ) → Outside m (a + (b + w)) → word after (a + b + w) ≡ word before (a + b + w)
-      moved a b w out = same (a + b + w) (subst (Outside m) (omega arith) out)
+      moved : (a b w : ℕ) → OutsideTables m (a + (b + w)) → word after (a + b + w) ≡ word before (a + b + w)
+      moved a b w out = same (a + b + w) (subst (OutsideTables m) (omega arith) out)

@@ -11,12 +11,12 @@ use Rattle.parts.specs.Size.{sizeOf}
 use Rattle.parts.proofs.Down.{children-says}
 use Rattle.image.specs.Image.{partBelow}
 use Rattle.image.specs.Records.{rowVertex}
-use Rattle.assembly.specs.Laid.{Laid}
+use Rattle.assembly.specs.Laid.{LaidForTables}
 use Rattle.assembly.specs.Steps.{RowIn, placeBelow, RowBelow}
 use Rattle.assembly.proofs.Places.{row-real}
 use Rattle.assembly.proofs.Below.{child-later, part-below, part-below-says, row-below}
 
-module _ (m : Map) (mem : List ℕ) (L : Laid m mem) (p i : ℕ) (hp : p < partCount m) (hi : i < sizeOf m p) {first mark : ℕ}
+module _ (m : Map) (mem : List ℕ) (L : LaidForTables m mem) (p i : ℕ) (hp : p < partCount m) (hi : i < sizeOf m p) {first mark : ℕ}
     (first-is : first ≡ getD mem (64 + 8 * p + 2) 0) (shown : mark ≡ getD mem (first + 4 * i + 2) 0) where
   -- the vertex fits beside the child in one word
   small : rowVertex m p i < 65536
@@ -52,7 +52,7 @@ module _ (m : Map) (mem : List ℕ) (L : Laid m mem) (p i : ℕ) (hp : p < partC
 pub below-shown : (mem : List ℕ) {i first mark part row size firstBelow table k : ℕ} → mark ≡ getD mem (first + 4 * i + 2) 0 → ((v d : ℕ) → v < 65536 → mark ≡ v + 65536 * d → part ≡ d) →
     size ≡ getD mem (64 + 8 * part + 1) 0 → firstBelow ≡ getD mem (64 + 8 * part + 2) 0 → table ≡ getD mem (64 + 8 * part + 3) 0 →
     row ≡ getD mem (first + 4 * i + 3) 0 → ((n : ℕ) → row ≡ firstBelow + 4 * n → k ≡ n) →
-    (m : Map) (p : ℕ) → Laid m mem → p < partCount m → i < sizeOf m p → first ≡ getD mem (64 + 8 * p + 2) 0 → RowBelow m p i part size firstBelow table k
+    (m : Map) (p : ℕ) → LaidForTables m mem → p < partCount m → i < sizeOf m p → first ≡ getD mem (64 + 8 * p + 2) 0 → RowBelow m p i part size firstBelow table k
 below-shown mem {i} {part = part} shown reads size-is below-is table-is points finds m p L hp hi first-is = record {
   alone = shown-nowhere m mem L p i hp hi first-is shown reads;
   row-in = shown-in m mem L p i hp hi first-is shown reads;

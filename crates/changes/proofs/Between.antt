@@ -10,7 +10,7 @@ use native.Mathlib.Decide.{ℕ-discrete}
 use Rattle.words.specs.Limits.{vans}
 use Rattle.words.specs.Lists.{word}
 use Rattle.roads.specs.Map.{Map}
-use Rattle.places.specs.Place.{vertexAt, vanAt}
+use Rattle.places.specs.Place.{vertexAddress, vanAddress}
 use Rattle.fleet.specs.State.{Slot, absent, present, State, active, slotOf}
 use Rattle.image.specs.Places.{verticesAt, vansAt, tablesAt, rowsAt, itselfAt, tableOf, firstRowOf}
 use Rattle.image.specs.Image.{headPart, vertexRecord, image}
@@ -26,7 +26,7 @@ withCount s count = record { count = count; vans = s .vans }
 
 module _ (m : Map) (s t : State) (slots : length (s .vans) ≡ vans) (slots′ : length (t .vans) ≡ vans) (same-count : s .count ≡ t .count)
     (after : List ℕ) (parked : Parked m (countsOf m) t after) (only : OnlyVans (countsOf m) (image m s) after) where
-  before-vans : (a : ℕ) → a < vansAt m → ((v : ℕ) → v < m .vertices → a ≡ vertexAt (countsOf m) v + 4 → ⊥) → word after a ≡ word (image m s) a
+  before-vans : (a : ℕ) → a < vansAt m → ((v : ℕ) → v < m .vertices → a ≡ vertexAddress (countsOf m) v + 4 → ⊥) → word after a ≡ word (image m s) a
   before-vans a early no-first = only .other a no-first (λ x f hx hf e. omega (arith, roads-start m, vans-start m))
 
   past-vans : (a : ℕ) → tablesAt m ≤ a → word after a ≡ word (image m s) a
@@ -65,7 +65,7 @@ module _ (m : Map) (s t : State) (slots : length (s .vans) ≡ vans) (slots′ :
   in-van : (x w : ℕ) → x < vans → w < 8 → word after (vansAt m + 8 * x + w) ≡ word (image m t) (vansAt m + 8 * x + w)
   in-van x w hx hw =
       ap (word after) (sym (van-place m x w))
-      ∙ field after (vanAt (countsOf m) x) 8 (slotWords m t x (slotOf t x)) w hw (parked .van x hx)
+      ∙ field after (vanAddress (countsOf m) x) 8 (slotWords m t x (slotOf t x)) w hw (parked .van x hx)
       ∙ ap (λ (l : List ℕ). word l w) (sym (van-record m t x))
       ∙ sym (van-word m t slots′ x w hx hw)
 

@@ -12,11 +12,11 @@ use Rattle.answers.specs.declared.Reply.the-variants.{Accepted, CountUsedUp}
 use Rattle.counts.specs.declared.Counts.{Counts}
 use Rattle.fleet.specs.State.{absent}
 use Rattle.van_lists.specs.declared.VanWords.{VanWords}
-use Rattle.van_lists.specs.Slot.{wordsOf, stamped}
-use Rattle.van_lists.specs.Walk.{written}
+use Rattle.van_lists.specs.Slot.{standingWords, stamped}
+use Rattle.van_lists.specs.Walk.{vanWritten}
 use Rattle.road_lookup.specs.Lookup.{endIn}
 use Rattle.row_refresh.specs.Model.{switched}
-use Rattle.changes.specs.Made.{switchedAlone, departed, arrived, moved, made, counted, settled}
+use Rattle.changes.specs.Made.{switchedAlone, vanDeparted, vanArrived, moved, made, counted, settled}
 
 module _ (mem : List ℕ) (vertex others : ℕ) (is : Bool) where
   pub switches-alone : (end : List ℕ) → others ≡ 0 → end ≡ switched mem vertex is → end ≡ switchedAlone mem vertex others is
@@ -28,32 +28,32 @@ module _ (mem : List ℕ) (vertex others : ℕ) (is : Bool) where
   switches-not some = rw (ne-eqb others 0 some)
 
 module _ (mem : List ℕ) (counts : Counts) (van : ℕ) (old new : VanWords) (from to : ℕ) (f : from ≡ endIn mem counts (old .road)) (t : to ≡ endIn mem counts (new .road)) (end : List ℕ) where
-  pub makes-kept : old .state ≡ 1 → new .state ≡ 1 → from ≡ to → end ≡ written mem counts van new → end ≡ made mem counts van old new
+  pub makes-kept : old .state ≡ 1 → new .state ≡ 1 → from ≡ to → end ≡ vanWritten mem counts van new → end ≡ made mem counts van old new
   unfolding made moved
   makes-kept was is same e =
       rw (eq-eqb (old .state) 1 was, eq-eqb (new .state) 1 is, eq-eqb (endIn mem counts (old .road)) (endIn mem counts (new .road)) (sym f ∙ same ∙ t)) e
 
-  pub makes-moved : (out : List ℕ) → old .state ≡ 1 → new .state ≡ 1 → (from ≡ to → ⊥) → out ≡ departed mem counts van from (wordsOf absent)
-      → end ≡ arrived out counts van to new → end ≡ made mem counts van old new
+  pub makes-moved : (out : List ℕ) → old .state ≡ 1 → new .state ≡ 1 → (from ≡ to → ⊥) → out ≡ vanDeparted mem counts van from (standingWords absent)
+      → end ≡ vanArrived out counts van to new → end ≡ made mem counts van old new
   unfolding made moved
   makes-moved out was is other o e =
       rw (eq-eqb (old .state) 1 was, eq-eqb (new .state) 1 is, ne-eqb (endIn mem counts (old .road)) (endIn mem counts (new .road)) (λ same. other (f ∙ same ∙ sym t))) (e ∙ both)
     where
-      out′ : out ≡ departed mem counts van (endIn mem counts (old .road)) (wordsOf absent)
-      out′ = o ∙ ap (λ (k : ℕ). departed mem counts van k (wordsOf absent)) f
+      out′ : out ≡ vanDeparted mem counts van (endIn mem counts (old .road)) (standingWords absent)
+      out′ = o ∙ ap (λ (k : ℕ). vanDeparted mem counts van k (standingWords absent)) f
 
-      both : arrived out counts van to new ≡ arrived (departed mem counts van (endIn mem counts (old .road)) (wordsOf absent)) counts van (endIn mem counts (new .road)) new
-      both i = arrived (out′ i) counts van (t i) new
+      both : vanArrived out counts van to new ≡ vanArrived (vanDeparted mem counts van (endIn mem counts (old .road)) (standingWords absent)) counts van (endIn mem counts (new .road)) new
+      both i = vanArrived (out′ i) counts van (t i) new
 
-  pub makes-departed : old .state ≡ 1 → (new .state ≡ 1 → ⊥) → end ≡ departed mem counts van from new → end ≡ made mem counts van old new
+  pub makes-departed : old .state ≡ 1 → (new .state ≡ 1 → ⊥) → end ≡ vanDeparted mem counts van from new → end ≡ made mem counts van old new
   unfolding made
-  makes-departed was is-not e = rw (eq-eqb (old .state) 1 was, ne-eqb (new .state) 1 is-not) (e ∙ ap (λ (k : ℕ). departed mem counts van k new) f)
+  makes-departed was is-not e = rw (eq-eqb (old .state) 1 was, ne-eqb (new .state) 1 is-not) (e ∙ ap (λ (k : ℕ). vanDeparted mem counts van k new) f)
 
-  pub makes-arrived : (old .state ≡ 1 → ⊥) → new .state ≡ 1 → end ≡ arrived mem counts van to new → end ≡ made mem counts van old new
+  pub makes-arrived : (old .state ≡ 1 → ⊥) → new .state ≡ 1 → end ≡ vanArrived mem counts van to new → end ≡ made mem counts van old new
   unfolding made
-  makes-arrived was-not is e = rw (ne-eqb (old .state) 1 was-not, eq-eqb (new .state) 1 is) (e ∙ ap (λ (k : ℕ). arrived mem counts van k new) t)
+  makes-arrived was-not is e = rw (ne-eqb (old .state) 1 was-not, eq-eqb (new .state) 1 is) (e ∙ ap (λ (k : ℕ). vanArrived mem counts van k new) t)
 
-  pub makes-written : (old .state ≡ 1 → ⊥) → (new .state ≡ 1 → ⊥) → end ≡ written mem counts van new → end ≡ made mem counts van old new
+  pub makes-written : (old .state ≡ 1 → ⊥) → (new .state ≡ 1 → ⊥) → end ≡ vanWritten mem counts van new → end ≡ made mem counts van old new
   unfolding made
   makes-written was-not is-not e = rw (ne-eqb (old .state) 1 was-not, ne-eqb (new .state) 1 is-not) e
 

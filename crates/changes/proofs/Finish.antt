@@ -23,16 +23,16 @@ use Rattle.fleet.specs.Change.{refused, accepted, inRange, countLeft, refusalOf
 use Rattle.fleet.proofs.Good.{van-in-range, step-good}
 use Rattle.image.specs.Image.{image}
 use Rattle.van_lists.specs.declared.VanWords.{VanWords}
-use Rattle.van_lists.specs.Slot.{wordsOf}
+use Rattle.van_lists.specs.Slot.{standingWords}
 use Rattle.van_lists.specs.Walk.{vanIn}
 use Rattle.van_lists.proofs.Relink.{slot-new}
 use Rattle.refusals.specs.declared.Verdict.{Verdict}
 use Rattle.refusals.specs.declared.Verdict.the-variants.{Refuse, Stand}
-use Rattle.refusals.specs.Verdict.{Judged}
+use Rattle.refusals.specs.Verdict.{HasVerdict}
 use Rattle.refusals.proofs.Agrees.{Agrees, agrees}
 use Rattle.refusals.proofs.Later.{Later, judged-later}
 use Rattle.changes.specs.Made.{counted, settled}
-use Rattle.changes.specs.Done.{Done}
+use Rattle.changes.specs.Done.{ChangeDone}
 use Rattle.changes.proofs.Reading.{countsOf, counts-read, count-read, image-roads, image-weights, van-read}
 use Rattle.changes.proofs.Whole.{OnMap, image-settled}
 
@@ -47,23 +47,23 @@ pub record Read (mem : List ℕ) (c : Change) (counts : Counts) (van : ℕ) (old
   pub van-is : van ≡ vanOf c
   pub old-is : old ≡ vanIn mem counts van
 
-module _ (mem : List ℕ) (c : Change) (counts : Counts) (van : ℕ) (old : VanWords) (read : Read mem c counts van old) (verdict : Verdict) (j : Judged mem counts old c verdict) where
+module _ (mem : List ℕ) (c : Change) (counts : Counts) (van : ℕ) (old : VanWords) (read : Read mem c counts van old) (verdict : Verdict) (j : HasVerdict mem counts old c verdict) where
   -- the same of the words of a map and a fleet
   module _ (m : Map) (s : State) (sound : Sound m) (good : Good m s) (e : mem ≡ image m s) (ok : inRange c ≡ true) where
     counts-are : counts ≡ countsOf m
     counts-are = read .counts-is ∙ ap countsIn e ∙ counts-read m s (good .slots)
 
-    old-are : old ≡ wordsOf (slotOf s (vanOf c))
+    old-are : old ≡ standingWords (slotOf s (vanOf c))
     old-are = read .old-is ∙ (λ i. vanIn (e i) (counts-are i) (read .van-is i)) ∙ van-read m s (good .slots) (vanOf c) (van-in-range c ok)
 
     pub agreed : Agrees m s c verdict
     agreed =
         agrees m s (image m s) (countsOf m) sound (image-roads m s (good .slots)) (image-weights m s (good .slots)) c ok verdict
-        (subst (λ (k : VanWords). Judged (image m s) (countsOf m) k c verdict) old-are
-        (subst (λ (k : Counts). Judged (image m s) k old c verdict) counts-are
-        (subst (λ (l : List ℕ). Judged l counts old c verdict) e j)))
+        (subst (λ (k : VanWords). HasVerdict (image m s) (countsOf m) k c verdict) old-are
+        (subst (λ (k : Counts). HasVerdict (image m s) k old c verdict) counts-are
+        (subst (λ (l : List ℕ). HasVerdict l counts old c verdict) e j)))
 
-  pub refused-done : (r : Reply) → verdict ≡ Refuse r → Done c mem (answered r) mem
+  pub refused-done : (r : Reply) → verdict ≡ Refuse r → ChangeDone c mem (answered r) mem
   refused-done r is =
       record {
         right = λ m s sound good e ok.
@@ -123,7 +123,7 @@ module _ (mem : List ℕ) (c : Change) (counts : Counts) (van : ℕ) (old : VanW
             on-map : OnMap m new
             on-map v there = good′ .van (vanOf c) v (slot-new m s (good .slots) (vanOf c) (van-in-range c ok) new ∙ there) .road
 
-    pub stands-done : Done c mem (answered r) after
+    pub stands-done : ChangeDone c mem (answered r) after
     stands-done =
         record {
           right = right;

@@ -23,13 +23,14 @@ use van_lists::write_van;
 ghost use mathlib.Core.Path.{_≡_};
 ghost use mathlib.Core.Bool.{true, _&&_};
 ghost use Prim.Native.Nat.{_<_};
+ghost use Rattle.words.specs.Limits.{vans};
 ghost use Rattle.words.specs.Lists.{word};
 ghost use Rattle.answers.specs.Answered.{answered};
 ghost use Rattle.fleet.specs.Change.{vanInRange, deskInRange, inRange, vanOf};
 ghost use Rattle.refusals.specs.Verdict.{deskOf};
 ghost use Rattle.calls.specs.Outcome.{Changed};
-ghost use Rattle.changes.specs.Made.{switchedAlone, departed, arrived, made, counted, settled};
-ghost use Rattle.changes.specs.Done.{Done};
+ghost use Rattle.changes.specs.Made.{switchedAlone, vanDeparted, vanArrived, made, counted, settled};
+ghost use Rattle.changes.specs.Done.{ChangeDone};
 
 // Where `others`, the first of the other vans in the list of the vertex, is none, the vertex becomes active (`arrives`) or inactive.
 fn switch_alone(mem: &mut [u32], vertex: u32, others: u32, arrives: bool)
@@ -42,7 +43,7 @@ fn switch_alone(mem: &mut [u32], vertex: u32, others: u32, arrives: bool)
 
 // A free van for `vertex` stands as `words` say, and heads nowhere.
 fn depart(mem: &mut [u32], counts: Counts, van: u32, vertex: u32, words: VanWords)
-    ensures { λ _. ⌜ now (mem .exit) ≡ departed (now (mem .entry)) counts van vertex words ⌝ }
+    ensures { λ _. ⌜ now (mem .exit) ≡ vanDeparted (now (mem .entry)) counts van vertex words ⌝ }
 {
     take_out(mem, counts, van, vertex, words);
     let others = word(mem, vertex_at(counts, vertex) + 4);
@@ -51,8 +52,8 @@ fn depart(mem: &mut [u32], counts: Counts, van: u32, vertex: u32, words: VanWord
 
 // A van that heads nowhere stands as `words` say, a free van for `vertex`.
 fn arrive(mem: &mut [u32], counts: Counts, van: u32, vertex: u32, words: VanWords)
-    requires { ⌜ van < 1024 ⌝ }
-    ensures { λ _. ⌜ now (mem .exit) ≡ arrived (now (mem .entry)) counts van vertex words ⌝ }
+    requires { ⌜ van < vans ⌝ }
+    ensures { λ _. ⌜ now (mem .exit) ≡ vanArrived (now (mem .entry)) counts van vertex words ⌝ }
 {
     let others = word(mem, vertex_at(counts, vertex) + 4);
     put_in(mem, counts, van, vertex, words);
@@ -61,7 +62,7 @@ fn arrive(mem: &mut [u32], counts: Counts, van: u32, vertex: u32, words: VanWord
 
 // The van, which stood as `old` says, stands as `new` says.
 fn make(mem: &mut [u32], counts: Counts, van: u32, old: VanWords, new: VanWords)
-    requires { ⌜ van < 1024 ⌝ }
+    requires { ⌜ van < vans ⌝ }
     ensures { λ _. ⌜ now (mem .exit) ≡ made (now (mem .entry)) counts van old new ⌝ }
 {
     if old.state == VanWords::FREE {
@@ -89,7 +90,7 @@ fn make(mem: &mut [u32], counts: Counts, van: u32, old: VanWords, new: VanWords)
 
 // The van stands as `new` says, under the next count as its stamp, unless the count is used up.
 fn settle(mem: &mut [u32], counts: Counts, van: u32, old: VanWords, new: VanWords) -> Reply
-    requires { ⌜ van < 1024 ⌝ }
+    requires { ⌜ van < vans ⌝ }
     ensures { λ r. ⌜ (r ≡ counted (word (now (mem .entry)) 5)) × (now (mem .exit) ≡ settled (now (mem .entry)) counts van old new) ⌝ }
 {
     let count = word(mem, 5);
@@ -103,8 +104,8 @@ fn settle(mem: &mut [u32], counts: Counts, van: u32, old: VanWords, new: VanWord
 
 // The change on the words used of a memory, where its numbers are in range.
 pub fn change_in(mem: &mut [u32], change: Change) -> Reply
-    requires { ⌜ (vanOf change < 1024) × (deskOf change < 256) ⌝ }
-    ensures { λ r. ⌜ Done change (now (mem .entry)) (answered r) (now (mem .exit)) ⌝ }
+    requires { ⌜ (vanOf change < vans) × (deskOf change < 256) ⌝ }
+    ensures { λ r. ⌜ ChangeDone change (now (mem .entry)) (answered r) (now (mem .exit)) ⌝ }
 {
     let counts = counts_in(mem);
     let van = van_of(change);

@@ -16,7 +16,7 @@ use Rattle.maps.specs.Rules.{countsFit}
 use Rattle.maps.specs.Judge.{sound, judge}
 use Rattle.maps.proofs.Judged.{numbers-length, number-is, roads-length, judged-shown}
 use Rattle.map_bytes.specs.Copied.{Copied}
-use Rattle.map_parts.specs.Part.{Shows}
+use Rattle.map_parts.specs.Part.{ShowsPartsOf}
 use Rattle.map_borders.specs.Sizes.{Given}
 use Rattle.map_judge.specs.Asked.{asked, parentsAt, leavesAt, roadsAt, Limited}
 
@@ -32,7 +32,7 @@ limited v r p fit =
     }
 
 pub shows-by : (bytes : List ℕ) (c : Counts) {first second old parents old′ leaves : List ℕ} → first ≡ drop parentsAt bytes → Copied first (c .parts) old parents
-    → second ≡ drop (leavesAt c) bytes → Copied second (c .vertices) old′ leaves → Shows (decode bytes c) parents leaves (c .vertices) (c .parts)
+    → second ≡ drop (leavesAt c) bytes → Copied second (c .vertices) old′ leaves → ShowsPartsOf (decode bytes c) parents leaves (c .vertices) (c .parts)
 unfolding decode
 shows-by bytes c isFirst parents isSecond leaves =
     record {
@@ -48,12 +48,12 @@ roads-by bytes c is = ap (roadsOf (c .roads)) (sym is)
 
 -- a sound map is what the bytes show by the counts of record 1
 pub given-by : (bytes : List ℕ) (m : Map) (v r p : ℕ) {parents leaves body : List ℕ} → judge bytes ≡ sound m → asked v r p ≡ countsOf bytes → Limited (asked v r p)
-    → Shows (decode bytes (asked v r p)) parents leaves v p → body ≡ drop (roadsAt (asked v r p)) bytes → Given m parents leaves body v r p
+    → ShowsPartsOf (decode bytes (asked v r p)) parents leaves v p → body ≡ drop (roadsAt (asked v r p)) bytes → Given m parents leaves body v r p
 given-by bytes m v r p {parents} {leaves} judged is within shows roads =
     let shown = judged-shown bytes m judged in
     let same : decode bytes (asked v r p) ≡ m = ap (decode bytes) is ∙ shown .map in
     record {
-      shows = subst (λ (k : Map). Shows k parents leaves v p) same shows;
+      shows = subst (λ (k : Map). ShowsPartsOf k parents leaves v p) same shows;
       roadList = sym (ap (λ (k : Map). k .roads) same) ∙ roads-by bytes (asked v r p) roads;
       fewVertices = within .vertices;
       fewParts = within .parts;
@@ -63,11 +63,11 @@ given-by bytes m v r p {parents} {leaves} judged is within shows roads =
 
 -- its parents and leaves, and its roads, by its own counts
 pub shows-of : (bytes : List ℕ) (m : Map) (v r p : ℕ) {parents leaves : List ℕ} → judge bytes ≡ sound m → asked v r p ≡ countsOf bytes
-    → Shows (decode bytes (asked v r p)) parents leaves v p → Shows m parents leaves (m .vertices) (partCount m)
+    → ShowsPartsOf (decode bytes (asked v r p)) parents leaves v p → ShowsPartsOf m parents leaves (m .vertices) (partCount m)
 shows-of bytes m v r p {parents} {leaves} judged is shows =
     let same : decode bytes (asked v r p) ≡ m = ap (decode bytes) is ∙ judged-shown bytes m judged .map in
-    let of-m : Shows m parents leaves v p = subst (λ (k : Map). Shows k parents leaves v p) same shows in
-    subst⁻¹ (λ (n : ℕ). Shows m parents leaves n (partCount m)) (of-m .vertexCount) (subst⁻¹ (λ (n : ℕ). Shows m parents leaves v n) (of-m .count) of-m)
+    let of-m : ShowsPartsOf m parents leaves v p = subst (λ (k : Map). ShowsPartsOf k parents leaves v p) same shows in
+    subst⁻¹ (λ (n : ℕ). ShowsPartsOf m parents leaves n (partCount m)) (of-m .vertexCount) (subst⁻¹ (λ (n : ℕ). ShowsPartsOf m parents leaves v n) (of-m .count) of-m)
 
 pub roads-of : (bytes : List ℕ) (m : Map) (v r p : ℕ) {body : List ℕ} → judge bytes ≡ sound m → asked v r p ≡ countsOf bytes → body ≡ drop (roadsAt (asked v r p)) bytes
     → m .roads ≡ roadsOf (roadCount m) body

@@ -32,7 +32,7 @@ use Rattle.opening_fresh.proofs.Fresh.{fresh-slots, fresh-count, fresh-vertex, 
 use Rattle.opening_parts.specs.Parts.{PartsStand}
 use Rattle.opening_rows.specs.Rows.{hasRow, rowPlace}
 use Rattle.opening_rows.proofs.Places.{rows-kept, place-row}
-use Rattle.opening_sections.specs.Sections.{Shown, NetStands, RowsDone, Sections}
+use Rattle.opening_sections.specs.Sections.{MapShown, NetStands, RowsDone, Sections}
 
 -- the stores of `write_head`
 pub head-stored : (mem p q r : List ℕ) (used vertices roads parts start : ℕ) → p ≡ sets mem 0 (20481 ∷ used ∷ vertices ∷ roads ∷ []) → q ≡ sets p 4 (parts ∷ start ∷ 0 ∷ 0 ∷ []) → r ≡ cleared q 8 56
@@ -96,7 +96,7 @@ module _ (m : Map) (start : ℕ) where
       (cleared-agrees target c d (vansAt m) n e (omega (arith, tables-start m, all)) (λ j h. van-none j (omega (arith, all)))))
 
   -- the sections before the tables
-  module _ (parents leaves body lifts sizes : List ℕ) (vertices roads parts used : ℕ) (shown : Shown m parents leaves body lifts sizes vertices roads parts used) where
+  module _ (parents leaves body lifts sizes : List ℕ) (vertices roads parts used : ℕ) (shown : MapShown m parents leaves body lifts sizes vertices roads parts used) where
     pub front-stands : (mem a b c d : List ℕ) (n : ℕ) → length mem ≡ used → a ≡ sets mem 0 (headRecord used vertices roads parts start) → PartsStand m 0 a b → NetStands m b c
         → n ≡ 8 * vans → d ≡ cleared c (64 + 8 * parts + 8 * vertices + 4 * roads) n → Agrees target 0 (tablesAt m) d
     front-stands mem a b c d n long e w net all f =

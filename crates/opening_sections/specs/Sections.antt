@@ -21,7 +21,7 @@ use Rattle.opening_rows.specs.Rows.{RowsStand}
 use Rattle.opening_sections.specs.Counted.{Counted}
 
 -- m is sound, has these counts and this need, and what is lent shows it
-pub record Shown (m : Map) (parents leaves body lifts sizes : List ℕ) (vertices roads parts used : ℕ) : Type 0 where
+pub record MapShown (m : Map) (parents leaves body lifts sizes : List ℕ) (vertices roads parts used : ℕ) : Type 0 where
   pub sound : Sound m
   pub counted : Counted m vertices roads parts used
   pub parents-shown : ShowsParents m parents

@@ -18,12 +18,13 @@ ghost use mathlib.Core.List.{List};
 ghost use Prim.Native.Nat.{ℕ, _+_, _*_, _<_, _≤_};
 ghost use lib.ListN.{length};
 ghost use lib.Seq.{sets};
+ghost use Rattle.words.specs.Limits.{mostVertices, mostRoads, mostParts};
 ghost use Rattle.layout.specs.Layout.{part·rows, partWord};
 ghost use Rattle.roads.specs.Map.{Map, partCount};
 ghost use Rattle.image.specs.Places.{firstRowOf};
 ghost use Rattle.image.specs.Image.{headRecord};
 ghost use Rattle.opening_parts.specs.Parts.{PartsStand};
-ghost use Rattle.opening_sections.specs.Sections.{Shown, NetStands, RowsDone, Sections};
+ghost use Rattle.opening_sections.specs.Sections.{MapShown, NetStands, RowsDone, Sections};
 
 const HEAD_WORDS: u32 = HeadRecord::WORDS as u32;
 
@@ -55,8 +56,8 @@ fn write_head(mem: &mut [u32], used: u32, counts: Counts, start: u32)
 }
 
 fn write_part_section(parents: &[u32], sizes: &[u32], parts: u32, used: u32, mem: &mut [u32])
-    requires { ⌜ parts ≤ 512 ⌝ }
-    ensures { λ _. ⌜ ((m : Map) (leaves body lifts : List ℕ) (vertices roads : ℕ) → Shown m (now (parents .entry)) leaves body lifts (now (sizes .entry)) vertices roads parts used → length (now (mem .entry)) ≡ used → PartsStand m 0 (now (mem .entry)) (now (mem .exit))) ⌝ }
+    requires { ⌜ parts ≤ mostParts ⌝ }
+    ensures { λ _. ⌜ ((m : Map) (leaves body lifts : List ℕ) (vertices roads : ℕ) → MapShown m (now (parents .entry)) leaves body lifts (now (sizes .entry)) vertices roads parts used → length (now (mem .entry)) ≡ used → PartsStand m 0 (now (mem .entry)) (now (mem .exit))) ⌝ }
 {
     let tables_end = rows_begin(sizes, parts, used);
     let mut children: [u32; 512] = [0; 512];
@@ -65,8 +66,8 @@ fn write_part_section(parents: &[u32], sizes: &[u32], parts: u32, used: u32, mem
 
 // The roads and the vertices, which show the first road into each.
 fn write_net(leaves: &[u32], body: &[u8], vertices: u32, roads: u32, parts: u32, mem: &mut [u32])
-    requires { ⌜ (vertices ≤ 4096) × (roads ≤ 16384) × (parts ≤ 512) ⌝ }
-    ensures { λ _. ⌜ ((m : Map) (parents lifts sizes : List ℕ) (used : ℕ) → Shown m parents (now (leaves .entry)) (now (body .entry)) lifts sizes vertices roads parts used → length (now (mem .entry)) ≡ used → NetStands m (now (mem .entry)) (now (mem .exit))) ⌝ }
+    requires { ⌜ (vertices ≤ mostVertices) × (roads ≤ mostRoads) × (parts ≤ mostParts) ⌝ }
+    ensures { λ _. ⌜ ((m : Map) (parents lifts sizes : List ℕ) (used : ℕ) → MapShown m parents (now (leaves .entry)) (now (body .entry)) lifts sizes vertices roads parts used → length (now (mem .entry)) ≡ used → NetStands m (now (mem .entry)) (now (mem .exit))) ⌝ }
 {
     let vertices_at = HEAD_WORDS + PART_WORDS * parts;
     let mut ins: [u32; 4096] = [0; 4096];
@@ -98,8 +99,8 @@ fn write_row_section(
     parts: u32,
     mem: &mut [u32],
 )
-    requires { ⌜ (vertices ≤ 4096) × (parts ≤ 512) ⌝ }
-    ensures { λ _. ⌜ ((m : Map) (body sizes : List ℕ) (roads used : ℕ) → used < 4294967296 → Shown m (now (parents .entry)) (now (leaves .entry)) body (now (lifts .entry)) sizes vertices roads parts used → length (now (mem .entry)) ≡ used → ((p : ℕ) → p < partCount m → partWord (now (mem .entry)) p part·rows ≡ firstRowOf m p) → RowsDone m (now (mem .entry)) (now (mem .exit))) ⌝ }
+    requires { ⌜ (vertices ≤ mostVertices) × (parts ≤ mostParts) ⌝ }
+    ensures { λ _. ⌜ ((m : Map) (body sizes : List ℕ) (roads used : ℕ) → used < 4294967296 → MapShown m (now (parents .entry)) (now (leaves .entry)) body (now (lifts .entry)) sizes vertices roads parts used → length (now (mem .entry)) ≡ used → ((p : ℕ) → p < partCount m → partWord (now (mem .entry)) p part·rows ≡ firstRowOf m p) → RowsDone m (now (mem .entry)) (now (mem .exit))) ⌝ }
 {
     let mut cursors: [u32; 512] = [0; 512];
     first_rows(mem, parts, &mut cursors);
@@ -127,8 +128,8 @@ pub fn write_sections(
     start: u32,
     mem: &mut [u32],
 )
-    requires { ⌜ (counts .vertices ≤ 4096) × (counts .roads ≤ 16384) × (counts .parts ≤ 512) ⌝ }
-    ensures { λ _. ⌜ ((m : Map) → Shown m (now (parents .entry)) (now (leaves .entry)) (now (body .entry)) (now (lifts .entry)) (now (sizes .entry)) (counts .vertices) (counts .roads) (counts .parts) used → length (now (mem .entry)) ≡ used → Sections m start (now (mem .exit))) ⌝ }
+    requires { ⌜ (counts .vertices ≤ mostVertices) × (counts .roads ≤ mostRoads) × (counts .parts ≤ mostParts) ⌝ }
+    ensures { λ _. ⌜ ((m : Map) → MapShown m (now (parents .entry)) (now (leaves .entry)) (now (body .entry)) (now (lifts .entry)) (now (sizes .entry)) (counts .vertices) (counts .roads) (counts .parts) used → length (now (mem .entry)) ≡ used → Sections m start (now (mem .exit))) ⌝ }
 {
     let vertices = counts.vertices;
     let roads = counts.roads;

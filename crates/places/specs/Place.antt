@@ -8,11 +8,11 @@ use Rattle.counts.specs.declared.Counts.{Counts}
 abbrev pub countsIn : List ℕ → Counts
 countsIn mem = record { vertices = word mem head·vertices; roads = word mem head·roads; parts = word mem head·parts }
 
-abbrev pub vertexAt : Counts → ℕ → ℕ
-vertexAt counts vertex = verticesFrom (counts .parts) + vertex·words * vertex
+abbrev pub vertexAddress : Counts → ℕ → ℕ
+vertexAddress counts vertex = verticesFrom (counts .parts) + vertex·words * vertex
 
-abbrev pub roadAt : Counts → ℕ → ℕ
-roadAt counts road = roadsFrom (counts .parts) (counts .vertices) + road·words * road
+abbrev pub roadAddress : Counts → ℕ → ℕ
+roadAddress counts road = roadsFrom (counts .parts) (counts .vertices) + road·words * road
 
-abbrev pub vanAt : Counts → ℕ → ℕ
-vanAt counts van = vansFrom (counts .parts) (counts .vertices) (counts .roads) + van·words * van
+abbrev pub vanAddress : Counts → ℕ → ℕ
+vanAddress counts van = vansFrom (counts .parts) (counts .vertices) (counts .roads) + van·words * van

@@ -8,7 +8,7 @@ use layout::RoadRecord;
 use layout::VanRecord;
 use layout::VertexRecord;
 ghost use mathlib.Core.Path.{_≡_};
-ghost use Rattle.places.specs.Place.{countsIn, vertexAt, roadAt, vanAt};
+ghost use Rattle.places.specs.Place.{countsIn, vertexAddress, roadAddress, vanAddress};
 
 // The counts in the head of a memory.
 pub fn counts_in(mem: &[u32]) -> Counts
@@ -22,13 +22,13 @@ pub fn counts_in(mem: &[u32]) -> Counts
 }
 
 pub fn vertex_at(counts: Counts, vertex: u32) -> usize
-    ensures { λ r. ⌜ r ≡ vertexAt counts vertex ⌝ }
+    ensures { λ r. ⌜ r ≡ vertexAddress counts vertex ⌝ }
 {
     HeadRecord::WORDS + PartRecord::WORDS * wide(counts.parts) + VertexRecord::WORDS * wide(vertex)
 }
 
 pub fn road_at(counts: Counts, road: u32) -> usize
-    ensures { λ r. ⌜ r ≡ roadAt counts road ⌝ }
+    ensures { λ r. ⌜ r ≡ roadAddress counts road ⌝ }
 {
     HeadRecord::WORDS
         + PartRecord::WORDS * wide(counts.parts)
@@ -37,7 +37,7 @@ pub fn road_at(counts: Counts, road: u32) -> usize
 }
 
 pub fn van_at(counts: Counts, van: u32) -> usize
-    ensures { λ r. ⌜ r ≡ vanAt counts van ⌝ }
+    ensures { λ r. ⌜ r ≡ vanAddress counts van ⌝ }
 {
     HeadRecord::WORDS
         + PartRecord::WORDS * wide(counts.parts)

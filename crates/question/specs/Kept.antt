@@ -17,7 +17,7 @@ use Rattle.parts.specs.Border.{boundary}
 use Rattle.rows.specs.Row.{rowOf}
 use Rattle.fleet.specs.State.{Slot, absent, present, State, slotOf, headOf, active}
 use Rattle.fleet.specs.Question.{Listed, listedWords, comingFrom, sorted, nearest}
-use Rattle.places.specs.Place.{countsIn, vertexAt}
+use Rattle.places.specs.Place.{countsIn, vertexAddress}
 use Rattle.best_list.specs.Best.{offeredAll, InOrder}
 use Rattle.van_offers.specs.Offers.{rowOffers}
 use Rattle.van_offers.specs.Genuine.{Genuine, listOf}
@@ -156,7 +156,7 @@ pub record Fresh (dx keys waits : List ℕ) : Type 0 where
 
 -- the leaf of x
 abbrev pub leafIn : List ℕ → ℕ → ℕ
-leafIn mem x = word mem (vertexAt (countsIn mem) x + 0)
+leafIn mem x = word mem (vertexAddress (countsIn mem) x + 0)
 
 -- few are asked for, and where vans stand as in the leaf of x, k active vertices are among 8
 unfoldable pub closeBy : List ℕ → ℕ → ℕ → Bool

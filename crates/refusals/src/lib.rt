@@ -10,7 +10,7 @@ use van_lists::VanWords;
 ghost use mathlib.Core.Path.{_≡_};
 ghost use Prim.Native.Nat.{_<_};
 ghost use Rattle.fleet.specs.Change.{vanOf};
-ghost use Rattle.refusals.specs.Verdict.{deskOf, weightIn, placing, adding, moving, removing, claiming, releasing, Judged};
+ghost use Rattle.refusals.specs.Verdict.{deskOf, weightIn, placing, adding, moving, removing, claiming, releasing, HasVerdict};
 
 // The stamp of a van that is to stand is not told here.
 pub enum Verdict {
@@ -140,7 +140,7 @@ pub fn van_of(change: Change) -> u32
 // The change of a van that stands as `old` says.
 pub fn judged(mem: &[u32], counts: Counts, old: VanWords, change: Change) -> Verdict
     requires { ⌜ deskOf change < 256 ⌝ }
-    ensures { λ r. ⌜ Judged (now (mem .entry)) counts old change r ⌝ }
+    ensures { λ r. ⌜ HasVerdict (now (mem .entry)) counts old change r ⌝ }
 {
     match change {
         Change::Add {

@@ -10,7 +10,7 @@ use Rattle.roads.specs.Map.{Map, partCount}
 use Rattle.parts.specs.Size.{sizeOf, tableWordsBelow, tableWords, rowsBelow, rowCount}
 use Rattle.image.specs.Places.{verticesAt, roadsAt, vansAt, tablesAt, rowsAt, itselfAt, tableOf, firstRowOf}
 use Rattle.row_refresh.specs.Model.{partAt}
-use Rattle.row_memory.specs.Kept.{Outside}
+use Rattle.row_memory.specs.Kept.{OutsideRows}
 
 module _ (m : Map) (p : ℕ) (hp : p < partCount m) where
   -- the rows of parts stand one after the other
@@ -44,10 +44,10 @@ itself-before m u h = omega arith
 
 -- What stands before the rows of all parts, in other parts' rows, or in word 2 or 3 of a row, is outside what a part's rows show.
 module _ (m : Map) (p : ℕ) (hp : p < partCount m) where
-  pub early : (a : ℕ) → a < rowsAt m → Outside (firstRowOf m p) (sizeOf m p) a
+  pub early : (a : ℕ) → a < rowsAt m → OutsideRows (firstRowOf m p) (sizeOf m p) a
   early a h j hj = (λ e. omega (arith, rows-first m p hp), λ e. omega (arith, rows-first m p hp))
 
-  pub beside : (q i w a : ℕ) → q < partCount m → i < sizeOf m q → w < 4 → (q ≢ p) ⊎ (2 ≤ w) → a ≡ firstRowOf m q + 4 * i + w → Outside (firstRowOf m p) (sizeOf m p) a
+  pub beside : (q i w a : ℕ) → q < partCount m → i < sizeOf m q → w < 4 → (q ≢ p) ⊎ (2 ≤ w) → a ≡ firstRowOf m q + 4 * i + w → OutsideRows (firstRowOf m p) (sizeOf m p) a
   beside q i w a hq hi hw which e j hj = by (ℕ-discrete q p) (decLt q p) which
     where
       by : Dec (q ≡ p) → Dec (q < p) → (q ≢ p) ⊎ (2 ≤ w) → (a ≡ firstRowOf m p + 4 * j → ⊥) × (a ≡ firstRowOf m p + 4 * j + 1 → ⊥)

@@ -35,7 +35,7 @@ use Rattle.row_changes.proofs.Best.{row-shown, row-closed}
 use Rattle.row_changes.proofs.Refresh.{row-met, row-left}
 use Rattle.row_refresh.specs.Model.{rowIn, sourceIn, showing, led, partAt, rowsHere, fits, changed, touches, refreshed, touched}
 use Rattle.row_memory.specs.Kept.{Kept}
-use Rattle.row_memory.specs.Laid.{Few, Laid, RowsShow}
+use Rattle.row_memory.specs.Laid.{Few, LaidForRows, RowsShow}
 use Rattle.row_memory.proofs.Apart.{rows-last, table-last, table-before, part-before, itself-before, early, beside}
 use Rattle.row_memory.proofs.Offered.{Plain}
 use Rattle.row_memory.proofs.OnePart.{Ready, Triangle, Closed, arrived-rows, arrived-none}
@@ -61,7 +61,7 @@ module _ (m : Map) (net : Net m) (tree : Tree m) (p : ℕ) (hp : p < partCount m
     at-early : (a x : ℕ) → a < rowsAt m → word mem a ≡ x → word after a ≡ x
     at-early a x h e = kept .outside a (early m p hp a h) ∙ e
 
-    pub laid-kept : {isActive : ℕ → Bool} → Laid m isActive mem → Laid m isActive after
+    pub laid-kept : {isActive : ℕ → Bool} → LaidForRows m isActive mem → LaidForRows m isActive after
     laid-kept {isActive} laid =
         record {
           parent = λ q hq. at-early (partAt q) (parentOf m q) (omega (arith, part-before m q hq)) (laid .parent q hq);
@@ -113,7 +113,7 @@ module _ (m : Map) (net : Net m) (tree : Tree m) (p : ℕ) (hp : p < partCount m
         let place = place-in b (rowVertices m c) (boundary-row m net tree c b (found .1)) in
         later c (child .0) (omega (arith, tree .falls c (omega (arith, child .2)) (child .0), child .1)) (placeIn b (rowVertices m c)) (place .0) ∙ ap (rowOf m isActive c) (place .1)
 
-    source-shown : (mem : List ℕ) → Laid m isActive mem → LaterShow mem → (i : ℕ) → i < sizeOf m p → sourceIn mem (firstRowOf m p + 4 * i) ≡ source m isActive p (rowVertex m p i)
+    source-shown : (mem : List ℕ) → LaidForRows m isActive mem → LaterShow mem → (i : ℕ) → i < sizeOf m p → sourceIn mem (firstRowOf m p + 4 * i) ≡ source m isActive p (rowVertex m p i)
     unfolding source rowBelow rowVertices
     source-shown mem laid later i hi = ap (rowIn mem) (laid .below p i hp hi) ∙ by (isLeaf m p) (row-in i hi)
       where
@@ -125,7 +125,7 @@ module _ (m : Map) (net : Net m) (tree : Tree m) (p : ℕ) (hp : p < partCount m
         by true h = laid .own b (real i hi)
         by false h = child-row mem later b h
 
-    pub ready : (mem : List ℕ) → Laid m isActive mem → LaterShow mem
+    pub ready : (mem : List ℕ) → LaidForRows m isActive mem → LaterShow mem
         → Ready (firstRowOf m p) (sizeOf m p) (tableOf m p) (λ i. source m isActive p (rowVertex m p i)) (λ i j. dist m (rowVertex m p i) (rowVertex m p j)) mem
     ready mem laid later =
         record {
@@ -146,7 +146,7 @@ module _ (m : Map) (net : Net m) (tree : Tree m) (p : ℕ) (hp : p < partCount m
   triangle i k j hi hk hj = dist-triangle m net (rowVertex m p i) (real i hi) (rowVertex m p k) (rowVertex m p j) (real k hk)
 
   -- v became active or inactive
-  module _ (v : ℕ) (hv : v < m .vertices) (before after : ℕ → Bool) (few : Few m) (mem : List ℕ) (laid : Laid m after mem) (later : LaterShow after mem)
+  module _ (v : ℕ) (hv : v < m .vertices) (before after : ℕ → Bool) (few : Few m) (mem : List ℕ) (laid : LaidForRows m after mem) (later : LaterShow after mem)
       (shows : RowsShow m before mem p) where
     size-here : rowsHere mem p ≡ sizeOf m p
     size-here = rw (laid .size p hp) (rw (le-ltb 128 (sizeOf m p) (few .rows p hp)))

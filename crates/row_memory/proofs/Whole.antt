@@ -30,7 +30,7 @@ use Rattle.image.proofs.Records.{vertices-start, roads-start, vans-start, table
 use Rattle.row_changes.specs.Switch.{Switched}
 use Rattle.row_refresh.specs.Model.{rowIn, shown, partAt, refreshedUp, vertexAt, ownRow, switched}
 use Rattle.row_memory.specs.Old.{RowsOld}
-use Rattle.row_memory.specs.Laid.{Few, Laid, RowsShow}
+use Rattle.row_memory.specs.Laid.{Few, LaidForRows, RowsShow}
 use Rattle.row_memory.specs.Refreshed.{Refreshed}
 use Rattle.row_memory.proofs.Apart.{rows-first, table-before, part-before, itself-before, early, beside}
 use Rattle.row_memory.proofs.Offered.{shown-row, shown-others, shown-length}
@@ -60,7 +60,7 @@ module _ (m : Map) (s : State) (slots : length (s .vans) ≡ vans) where
       let b : word (image m s) (firstRowOf m p + 4 * j + 1) ≡ rowOf m (active m s) p (rowVertex m p j) .distance = shown-word m s slots p j 1 hp hj (omega arith) in
       λ t. record { vertex = a t; distance = b t }
 
-  image-laid : Laid m (active m s) (image m s)
+  image-laid : LaidForRows m (active m s) (image m s)
   unfolding partRecord
   image-laid =
       record {
@@ -90,10 +90,10 @@ record Half (m : Map) (s t : State) (mem : List ℕ) : Type 0 where
   old : (a : ℕ) → rowsAt m ≤ a → word mem a ≡ word (image m s) a
 
 module _ (m : Map) (s t : State) (slots : length (s .vans) ≡ vans) (slots′ : length (t .vans) ≡ vans) (mem : List ℕ) (half : Half m s t mem) where
-  laid-new : Laid m (active m t) (image m t)
+  laid-new : LaidForRows m (active m t) (image m t)
   laid-new = image-laid m t slots′
 
-  half-laid : Laid m (active m t) mem
+  half-laid : LaidForRows m (active m t) mem
   half-laid =
       record {
         parent = λ p hp. half .new (partAt p) (omega (arith, part-before m p hp)) ∙ laid-new .parent p hp;

@@ -6,10 +6,10 @@ use lib.ListN.{length}
 use Rattle.words.specs.Lists.{word}
 
 -- word a shows nothing of the `size` rows from `rows` on: it is neither the vertex nor the distance of one
-abbrev pub Outside : ℕ → ℕ → ℕ → Type 0
-Outside rows size a = (j : ℕ) → j < size → (a ≡ rows + 4 * j → ⊥) × (a ≡ rows + 4 * j + 1 → ⊥)
+abbrev pub OutsideRows : ℕ → ℕ → ℕ → Type 0
+OutsideRows rows size a = (j : ℕ) → j < size → (a ≡ rows + 4 * j → ⊥) × (a ≡ rows + 4 * j + 1 → ⊥)
 
 -- no other word changed than those that these rows show
 pub record Kept (rows size : ℕ) (mem after : List ℕ) : Type 0 where
   pub long : length after ≡ length mem
-  pub outside : (a : ℕ) → Outside rows size a → word after a ≡ word mem a
+  pub outside : (a : ℕ) → OutsideRows rows size a → word after a ≡ word mem a

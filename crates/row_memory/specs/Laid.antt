@@ -22,7 +22,7 @@ pub record Few (m : Map) : Type 0 where
   pub rows : (p : ℕ) → p < partCount m → sizeOf m p ≤ mostBorders
 
 -- The words that the refresh of a part's rows reads and never changes; `isActive` says which vertices are active.
-pub record Laid (m : Map) (isActive : ℕ → Bool) (mem : List ℕ) : Type 0 where
+pub record LaidForRows (m : Map) (isActive : ℕ → Bool) (mem : List ℕ) : Type 0 where
   pub parent : (p : ℕ) → p < partCount m → word mem (partAt p) ≡ parentOf m p
   pub size : (p : ℕ) → p < partCount m → word mem (partAt p + 1) ≡ sizeOf m p
   pub rows : (p : ℕ) → p < partCount m → word mem (partAt p + 2) ≡ firstRowOf m p

@@ -2,11 +2,12 @@
 ghost use mathlib.Core.Path.{_≡_};
 ghost use Prim.Native.Nat.{suc, _≤_, _<_};
 ghost use lib.ListN.{length};
+ghost use Rattle.words.specs.Limits.{mostVertices, mostBorders};
 ghost use Rattle.roads.specs.Map.{Map, partCount, roadCount};
 ghost use Rattle.parts.specs.Size.{sizeOf};
 ghost use Rattle.image.specs.Image.{firstRoadFrom};
-ghost use Rattle.assembly.specs.Laid.{Laid};
-ghost use Rattle.assembly.specs.Steps.{Noted, Marked, RoadsOf, Roads};
+ghost use Rattle.assembly.specs.Laid.{LaidForTables};
+ghost use Rattle.assembly.specs.Steps.{Noted, HaltsMarked, RoadsOf, Roads};
 use cells::put;
 use cells::wide;
 use cells::word;
@@ -19,7 +20,7 @@ use table_words::vertex_of;
 
 // The place of each row vertex of part p.
 pub fn note_rows(mem: &[u32], p: u32, place: &mut [u32])
-    ensures { λ r. ⌜ ((m : Map) → Laid m (now (mem .entry)) → p < partCount m → 4096 ≤ length (now (place .entry)) → Noted m p (sizeOf m p) (now (place .exit))) ⌝ }
+    ensures { λ r. ⌜ ((m : Map) → LaidForTables m (now (mem .entry)) → p < partCount m → mostVertices ≤ length (now (place .entry)) → Noted m p (sizeOf m p) (now (place .exit))) ⌝ }
     ensures { λ r. ⌜ length (now (place .exit)) ≡ length (now (place .entry)) ⌝ }
 {
     let size = of_part(mem, p, 1);
@@ -34,7 +35,7 @@ pub fn note_rows(mem: &[u32], p: u32, place: &mut [u32])
 
 // The number of the first road from vertex v or a later one.
 fn first_road(mem: &[u32], v: u32) -> u32
-    ensures { λ r. ⌜ ((m : Map) → Laid m (now (mem .entry)) → v ≤ m .vertices → r ≡ firstRoadFrom m v) ⌝ }
+    ensures { λ r. ⌜ ((m : Map) → LaidForTables m (now (mem .entry)) → v ≤ m .vertices → r ≡ firstRoadFrom m v) ⌝ }
 {
     if v < word(mem, 2) {
         let vertices = 64 + 8 * wide(word(mem, 4));
@@ -45,7 +46,7 @@ fn first_road(mem: &[u32], v: u32) -> u32
 
 // Rows i and j are marked as halts, unless one child d, e holds the vertices of both.
 fn mark(marks: &mut [u32], i: u32, j: u32, d: u32, e: u32)
-    ensures { λ r. ⌜ Marked (now (marks .entry)) i j d e (now (marks .exit)) ⌝ }
+    ensures { λ r. ⌜ HaltsMarked (now (marks .entry)) i j d e (now (marks .exit)) ⌝ }
     ensures { λ r. ⌜ length (now (marks .exit)) ≡ length (now (marks .entry)) ⌝ }
 {
     if d == e {
@@ -59,7 +60,7 @@ fn mark(marks: &mut [u32], i: u32, j: u32, d: u32, e: u32)
 
 // Road r, where it leads from the vertex of row i of part p to that of another row. The noted place is tested.
 fn lower_by_road(mem: &mut [u32], place: &[u32], marks: &mut [u32], p: u32, i: u32, r: u32)
-    ensures { λ _. ⌜ ((m : Map) → Laid m (now (mem .entry)) → p < partCount m → i < sizeOf m p → r < roadCount m → Noted m p (sizeOf m p) (now (place .entry)) → 128 ≤ length (now (marks .entry)) → RoadsOf m p i r (suc r) (now (mem .entry)) (now (mem .exit)) (now (marks .entry)) (now (marks .exit))) ⌝ }
+    ensures { λ _. ⌜ ((m : Map) → LaidForTables m (now (mem .entry)) → p < partCount m → i < sizeOf m p → r < roadCount m → Noted m p (sizeOf m p) (now (place .entry)) → mostBorders ≤ length (now (marks .entry)) → RoadsOf m p i r (suc r) (now (mem .entry)) (now (mem .exit)) (now (marks .entry)) (now (marks .exit))) ⌝ }
     ensures { λ _. ⌜ length (now (mem .exit)) ≡ length (now (mem .entry)) ⌝ }
     ensures { λ _. ⌜ length (now (marks .exit)) ≡ length (now (marks .entry)) ⌝ }
 {
@@ -87,7 +88,7 @@ fn lower_by_road(mem: &mut [u32], place: &[u32], marks: &mut [u32], p: u32, i: u
 }
 
 fn lower_by_roads(mem: &mut [u32], place: &[u32], marks: &mut [u32], p: u32, i: u32)
-    ensures { λ r. ⌜ ((m : Map) → Laid m (now (mem .entry)) → p < partCount m → i < sizeOf m p → Noted m p (sizeOf m p) (now (place .entry)) → 128 ≤ length (now (marks .entry)) → RoadsOf m p i 0 (roadCount m) (now (mem .entry)) (now (mem .exit)) (now (marks .entry)) (now (marks .exit))) ⌝ }
+    ensures { λ r. ⌜ ((m : Map) → LaidForTables m (now (mem .entry)) → p < partCount m → i < sizeOf m p → Noted m p (sizeOf m p) (now (place .entry)) → mostBorders ≤ length (now (marks .entry)) → RoadsOf m p i 0 (roadCount m) (now (mem .entry)) (now (mem .exit)) (now (marks .entry)) (now (marks .exit))) ⌝ }
     ensures { λ r. ⌜ length (now (mem .exit)) ≡ length (now (mem .entry)) ⌝ }
     ensures { λ r. ⌜ length (now (marks .exit)) ≡ length (now (marks .entry)) ⌝ }
 {
@@ -103,7 +104,7 @@ fn lower_by_roads(mem: &mut [u32], place: &[u32], marks: &mut [u32], p: u32, i: 
 
 // All roads between row vertices of part p.
 pub fn take_roads(mem: &mut [u32], place: &[u32], marks: &mut [u32], p: u32)
-    ensures { λ r. ⌜ ((m : Map) → Laid m (now (mem .entry)) → p < partCount m → Noted m p (sizeOf m p) (now (place .entry)) → 128 ≤ length (now (marks .entry)) → Roads m p (sizeOf m p) (now (mem .entry)) (now (mem .exit)) (now (marks .entry)) (now (marks .exit))) ⌝ }
+    ensures { λ r. ⌜ ((m : Map) → LaidForTables m (now (mem .entry)) → p < partCount m → Noted m p (sizeOf m p) (now (place .entry)) → mostBorders ≤ length (now (marks .entry)) → Roads m p (sizeOf m p) (now (mem .entry)) (now (mem .exit)) (now (marks .entry)) (now (marks .exit))) ⌝ }
     ensures { λ r. ⌜ length (now (mem .exit)) ≡ length (now (mem .entry)) ⌝ }
     ensures { λ r. ⌜ length (now (marks .exit)) ≡ length (now (marks .entry)) ⌝ }
 {

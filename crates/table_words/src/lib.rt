@@ -4,7 +4,7 @@ ghost use Prim.Native.Nat.{ℕ, _+_, _*_, _≤_, _<_, min};
 ghost use lib.ListN.{getD};
 ghost use Rattle.roads.specs.Map.{Map, partCount};
 ghost use Rattle.parts.specs.Size.{sizeOf};
-ghost use Rattle.assembly.specs.Laid.{Laid};
+ghost use Rattle.assembly.specs.Laid.{LaidForTables};
 ghost use Rattle.assembly.specs.Lower.{lowered, leveled};
 ghost use Rattle.assembly.specs.Steps.{RowBelow};
 use cells::put;
@@ -68,7 +68,7 @@ pub struct Below {
 
 // That of row i of the rows that start at `first`.
 pub fn row_below(mem: &[u32], first: u32, i: u32) -> Below
-    ensures { λ r. ⌜ ((m : Map) (p : ℕ) → Laid m (now (mem .entry)) → p < partCount m → i < sizeOf m p → first ≡ getD (now (mem .entry)) (64 + 8 * p + 2) 0 → RowBelow m p i (r .part) (r .size) (r .first) (r .table) (r .row)) ⌝ }
+    ensures { λ r. ⌜ ((m : Map) (p : ℕ) → LaidForTables m (now (mem .entry)) → p < partCount m → i < sizeOf m p → first ≡ getD (now (mem .entry)) (64 + 8 * p + 2) 0 → RowBelow m p i (r .part) (r .size) (r .first) (r .table) (r .row)) ⌝ }
 {
     let part = part_of(of_row(mem, first, i, 2));
     let size = of_part(mem, part, 1);

@@ -5,9 +5,10 @@ ghost use mathlib.Core.Path.{_≡_};
 ghost use mathlib.Core.List.{List};
 ghost use Prim.Native.Nat.{ℕ, suc, _≤_, _<_};
 ghost use lib.ListN.{length};
+ghost use Rattle.words.specs.Limits.{mostVertices};
 ghost use Rattle.roads.specs.Map.{Map, partCount};
 ghost use Rattle.parts.specs.Size.{sizeOf};
-ghost use Rattle.assembly.specs.Laid.{Laid, Filled};
+ghost use Rattle.assembly.specs.Laid.{LaidForTables, Filled};
 ghost use Rattle.assembly.specs.Lower.{Inside};
 ghost use Rattle.assembly.specs.Steps.{AtHome, HaltTried, Closed, EnteredRow, Entered, Risen, Descended};
 use cells::wide;
@@ -31,7 +32,7 @@ fn try_halt(mem: &mut [u32], marks: &[u32], table: u32, size: u32, k: u32)
 
 // Every halt of part p is tried in its table.
 fn close(mem: &mut [u32], marks: &[u32], p: u32)
-    ensures { λ r. ⌜ ((m : Map) → Laid m (now (mem .entry)) → p < partCount m → AtHome m p (now (mem .entry)) → Closed m p (sizeOf m p) (now (marks .entry)) (now (mem .entry)) (now (mem .exit))) ⌝ }
+    ensures { λ r. ⌜ ((m : Map) → LaidForTables m (now (mem .entry)) → p < partCount m → AtHome m p (now (mem .entry)) → Closed m p (sizeOf m p) (now (marks .entry)) (now (mem .entry)) (now (mem .exit))) ⌝ }
     ensures { λ r. ⌜ length (now (mem .exit)) ≡ length (now (mem .entry)) ⌝ }
 {
     let size = of_part(mem, p, 1);
@@ -45,7 +46,7 @@ fn close(mem: &mut [u32], marks: &[u32], p: u32)
 
 // The table of part p, right inside the part, where those of the later parts are.
 fn rise(mem: &mut [u32], place: &mut [u32], p: u32)
-    ensures { λ r. ⌜ ((m : Map) → Laid m (now (mem .entry)) → p < partCount m → 4096 ≤ length (now (place .entry)) → Inside m (suc p) (now (mem .entry)) → Risen m p (now (mem .entry)) (now (mem .exit))) ⌝ }
+    ensures { λ r. ⌜ ((m : Map) → LaidForTables m (now (mem .entry)) → p < partCount m → mostVertices ≤ length (now (place .entry)) → Inside m (suc p) (now (mem .entry)) → Risen m p (now (mem .entry)) (now (mem .exit))) ⌝ }
     ensures { λ r. ⌜ length (now (mem .exit)) ≡ length (now (mem .entry)) ⌝ }
     ensures { λ r. ⌜ length (now (place .exit)) ≡ length (now (place .entry)) ⌝ }
 {
@@ -60,7 +61,7 @@ fn rise(mem: &mut [u32], place: &mut [u32], p: u32)
 }
 
 fn rise_parts(mem: &mut [u32], place: &mut [u32])
-    ensures { λ r. ⌜ ((m : Map) → Laid m (now (mem .entry)) → 4096 ≤ length (now (place .entry)) → Risen m 0 (now (mem .entry)) (now (mem .exit))) ⌝ }
+    ensures { λ r. ⌜ ((m : Map) → LaidForTables m (now (mem .entry)) → mostVertices ≤ length (now (place .entry)) → Risen m 0 (now (mem .entry)) (now (mem .exit))) ⌝ }
     ensures { λ r. ⌜ length (now (mem .exit)) ≡ length (now (mem .entry)) ⌝ }
 {
     let mut p = word(mem, 4);
@@ -72,7 +73,7 @@ fn rise_parts(mem: &mut [u32], place: &mut [u32])
 
 // The vertex of row i of part p is tried in the table of the child that holds it.
 fn enter_row(mem: &mut [u32], p: u32, i: u32)
-    ensures { λ r. ⌜ ((m : Map) → Laid m (now (mem .entry)) → p < partCount m → i < sizeOf m p → Inside m 0 (now (mem .entry)) → EnteredRow m p i (now (mem .entry)) (now (mem .exit))) ⌝ }
+    ensures { λ r. ⌜ ((m : Map) → LaidForTables m (now (mem .entry)) → p < partCount m → i < sizeOf m p → Inside m 0 (now (mem .entry)) → EnteredRow m p i (now (mem .entry)) (now (mem .exit))) ⌝ }
     ensures { λ r. ⌜ length (now (mem .exit)) ≡ length (now (mem .entry)) ⌝ }
 {
     let first = of_part(mem, p, 2);
@@ -85,7 +86,7 @@ fn enter_row(mem: &mut [u32], p: u32, i: u32)
 }
 
 fn enter_rows(mem: &mut [u32], p: u32)
-    ensures { λ r. ⌜ ((m : Map) → Laid m (now (mem .entry)) → p < partCount m → Inside m 0 (now (mem .entry)) → Entered m p (sizeOf m p) (now (mem .entry)) (now (mem .exit))) ⌝ }
+    ensures { λ r. ⌜ ((m : Map) → LaidForTables m (now (mem .entry)) → p < partCount m → Inside m 0 (now (mem .entry)) → Entered m p (sizeOf m p) (now (mem .entry)) (now (mem .exit))) ⌝ }
     ensures { λ r. ⌜ length (now (mem .exit)) ≡ length (now (mem .entry)) ⌝ }
 {
     let size = of_part(mem, p, 1);
@@ -98,7 +99,7 @@ fn enter_rows(mem: &mut [u32], p: u32)
 
 // The tables of the children of part p, right over the whole map, where that of p is.
 fn descend(mem: &mut [u32], p: u32)
-    ensures { λ r. ⌜ ((m : Map) (start : List ℕ) → Laid m start → p < partCount m → Descended m p start (now (mem .entry)) → Descended m (suc p) start (now (mem .exit))) ⌝ }
+    ensures { λ r. ⌜ ((m : Map) (start : List ℕ) → LaidForTables m start → p < partCount m → Descended m p start (now (mem .entry)) → Descended m (suc p) start (now (mem .exit))) ⌝ }
     ensures { λ r. ⌜ length (now (mem .exit)) ≡ length (now (mem .entry)) ⌝ }
 {
     agree(mem, p);
@@ -106,7 +107,7 @@ fn descend(mem: &mut [u32], p: u32)
 }
 
 fn descend_parts(mem: &mut [u32])
-    ensures { λ r. ⌜ ((m : Map) (start : List ℕ) → Laid m start → Descended m 0 start (now (mem .entry)) → Descended m (partCount m) start (now (mem .exit))) ⌝ }
+    ensures { λ r. ⌜ ((m : Map) (start : List ℕ) → LaidForTables m start → Descended m 0 start (now (mem .entry)) → Descended m (partCount m) start (now (mem .exit))) ⌝ }
     ensures { λ r. ⌜ length (now (mem .exit)) ≡ length (now (mem .entry)) ⌝ }
 {
     let count = word(mem, 4);
@@ -119,7 +120,7 @@ fn descend_parts(mem: &mut [u32])
 
 // All tables of a memory whose other sections stand.
 pub fn fill_tables(mem: &mut [u32])
-    ensures { λ r. ⌜ ((m : Map) → Laid m (now (mem .entry)) → Filled m (now (mem .entry)) (now (mem .exit))) ⌝ }
+    ensures { λ r. ⌜ ((m : Map) → LaidForTables m (now (mem .entry)) → Filled m (now (mem .entry)) (now (mem .exit))) ⌝ }
     ensures { λ r. ⌜ length (now (mem .exit)) ≡ length (now (mem .entry)) ⌝ }
 {
     let mut place = [0u32; 4096];

@@ -8,8 +8,9 @@ use places::van_at;
 use places::vertex_at;
 ghost use mathlib.Core.Path.{_≡_};
 ghost use Prim.Native.Nat.{_<_};
+ghost use Rattle.words.specs.Limits.{vans};
 ghost use Rattle.van_lists.specs.Slot.{stamped};
-ghost use Rattle.van_lists.specs.Walk.{vanIn, behind, written, relinked, takenOut, putIn};
+ghost use Rattle.van_lists.specs.Walk.{vanIn, behind, vanWritten, relinked, takenOut, putIn};
 
 // The first four words of a van's record.
 pub struct VanWords {
@@ -88,7 +89,7 @@ fn behind(mem: &[u32], counts: Counts, vertex: u32, van: u32) -> usize
 
 // The van's record is written anew, but for its link.
 pub fn write_van(mem: &mut [u32], counts: Counts, van: u32, words: VanWords)
-    ensures { λ _. ⌜ now (mem .exit) ≡ written (now (mem .entry)) counts van words ⌝ }
+    ensures { λ _. ⌜ now (mem .exit) ≡ vanWritten (now (mem .entry)) counts van words ⌝ }
 {
     let at = van_at(counts, van);
     put(mem, at, words.state);
@@ -107,7 +108,7 @@ fn write_links(
     link: u32,
     words: VanWords,
 )
-    ensures { λ _. ⌜ now (mem .exit) ≡ written (relinked (now (mem .entry)) counts van before next link) counts van words ⌝ }
+    ensures { λ _. ⌜ now (mem .exit) ≡ vanWritten (relinked (now (mem .entry)) counts van before next link) counts van words ⌝ }
 {
     put(mem, before, next);
     put(mem, van_at(counts, van) + 4, link);
@@ -125,7 +126,7 @@ pub fn take_out(mem: &mut [u32], counts: Counts, van: u32, vertex: u32, words: V
 
 // A van that is not free enters the list of a vertex, and stands as `words` say.
 pub fn put_in(mem: &mut [u32], counts: Counts, van: u32, vertex: u32, words: VanWords)
-    requires { ⌜ van < 1024 ⌝ }
+    requires { ⌜ van < vans ⌝ }
     ensures { λ _. ⌜ now (mem .exit) ≡ putIn (now (mem .entry)) counts van vertex words ⌝ }
 {
     let before = behind(mem, counts, vertex, van);
