@@ -11,7 +11,8 @@ use native.Mathlib.Numerals.{add-one}
 use native.Mathlib.Omega.{arith}
 use lib.ListN.{getD}
 use Rattle.words.specs.Limits.{mostVertices, FAR}
-use Rattle.words.specs.Lists.{placeIn}
+use Rattle.words.specs.Lists.{placeIn, word}
+use Rattle.layout.specs.Layout.{head·parts, part·size, partWord}
 use Rattle.roads.specs.Map.{Map, partCount}
 use Rattle.roads.specs.Walk.{Walk, rest}
 use Rattle.roads.specs.Dist.{dist}
@@ -67,7 +68,7 @@ module _ (start : List ℕ) (p : ℕ) where
   pub entered-first : EnteredTo 0 start
   entered-first m L hp I = record { lower = lower-none m 0 start; tight = λ i c h. absurd (omega arith) }
 
-  pub entered-turn : {size : ℕ} (before after : List ℕ) (i : ℕ) → i < size → size ≡ getD start (64 + 8 * p + 1) 0 → EnteredTo i before →
+  pub entered-turn : {size : ℕ} (before after : List ℕ) (i : ℕ) → i < size → size ≡ partWord start p part·size → EnteredTo i before →
       ((m : Map) → LaidForTables m before → p < partCount m → i < sizeOf m p → Inside m 0 before → EnteredRow m p i before after) → EnteredTo (i + 1) after
   entered-turn before after i hi size-is done row m L hp I =
       let A = done m L hp I in
@@ -85,7 +86,7 @@ module _ (start : List ℕ) (p : ℕ) where
         ];
       }
 
-  pub entered-done : {size : ℕ} (mem : List ℕ) (i : ℕ) → i ≤ size → size ≤ i → size ≡ getD start (64 + 8 * p + 1) 0 → EnteredTo i mem →
+  pub entered-done : {size : ℕ} (mem : List ℕ) (i : ℕ) → i ≤ size → size ≤ i → size ≡ partWord start p part·size → EnteredTo i mem →
       (m : Map) → LaidForTables m start → p < partCount m → Inside m 0 start → Entered m p (sizeOf m p) start mem
   entered-done mem i within all size-is done m L hp I = subst (λ (n : ℕ). Entered m p n start mem) (omega (arith, L .part p hp .size)) (done m L hp I)
 
@@ -187,7 +188,7 @@ module _ (mem : List ℕ) where
   descended-turn before after p done step m start L D within =
       subst⁻¹ (λ (n : ℕ). Descended m n start after) (add-one p) (step m start L (omega arith) (done m start L D (omega arith)))
 
-  pub descended-done : {count : ℕ} (now : List ℕ) (p : ℕ) → p ≤ count → count ≤ p → count ≡ getD mem 4 0 → DescendedTo p now →
+  pub descended-done : {count : ℕ} (now : List ℕ) (p : ℕ) → p ≤ count → count ≤ p → count ≡ word mem head·parts → DescendedTo p now →
       (m : Map) (start : List ℕ) → LaidForTables m start → Descended m 0 start mem → Descended m (partCount m) start now
   descended-done now p within all count-is done m start L D =
       let K = laid-kept m start mem (D .risen .sized) (D .risen .outside) L in

@@ -8,6 +8,7 @@ use native.Mathlib.Decide.{ℕ-discrete}
 use native.Mathlib.Omega.{arith}
 use lib.ListN.{length, getD, length-set}
 use lib.Seq.{getD-set-same, getD-set-other}
+use Rattle.cells.specs.Lowered.{lowered}
 use Rattle.roads.specs.Map.{Map, partCount}
 use Rattle.roads.specs.Dist.{dist}
 use Rattle.parts.specs.Size.{sizeOf, need}
@@ -15,7 +16,7 @@ use Rattle.image.specs.Places.{tableOf}
 use Rattle.image.specs.Records.{rowVertex}
 use Rattle.image.proofs.Records.{rows-end}
 use Rattle.assembly.specs.Laid.{LaidForTables, tableEntry}
-use Rattle.assembly.specs.Lower.{lowered, Honest, Lower, Inside}
+use Rattle.assembly.specs.Lower.{Honest, Lower, Inside}
 use Rattle.assembly.proofs.Places.{table-from, table-to, entry-to, one-word}
 
 -- ---- nothing done, and one thing after the other

@@ -10,6 +10,7 @@ use lib.ListN.{length}
 use Rattle.words.specs.Lists.{word}
 use Rattle.words.proofs.Sums.{record-within, sum-below}
 use Rattle.words.proofs.Places.{entry-in}
+use Rattle.layout.specs.Layout.{part·words, part·size, part·rows, part·table, vertex·words, vertex·roads, road·words, road·from, road·to, road·weight, row·words, row·own, row·below, partAt}
 use Rattle.roads.specs.Map.{Map, partCount, roadCount}
 use Rattle.parts.specs.Size.{rowVertices, sizeOf, tableWordsBelow, tableWords}
 use Rattle.parts.proofs.Rows.{row-vertex}
@@ -67,13 +68,13 @@ module _ (m : Map) where
   pub head-outside : (x : ℕ) → x < 64 → OutsideTables m x
   head-outside x h = inl (omega (arith, vertices-start m, roads-start m, vans-start m, tables-start m))
 
-  pub part-outside : (p w : ℕ) → p < partCount m → w < 8 → OutsideTables m (64 + 8 * p + w)
+  pub part-outside : (p w : ℕ) → p < partCount m → w < part·words → OutsideTables m (partAt p + w)
   part-outside p w hp hw = inl (omega (arith, roads-start m, vans-start m, tables-start m))
 
-  pub vertex-outside : (v w : ℕ) → v < m .vertices → w < 8 → OutsideTables m (verticesAt m + 8 * v + w)
+  pub vertex-outside : (v w : ℕ) → v < m .vertices → w < vertex·words → OutsideTables m (verticesAt m + vertex·words * v + w)
   vertex-outside v w hv hw = inl (omega (arith, vertices-start m, roads-start m, vans-start m, tables-start m))
 
-  pub road-outside : (r w : ℕ) → r < roadCount m → w < 4 → OutsideTables m (roadsAt m + 4 * r + w)
+  pub road-outside : (r w : ℕ) → r < roadCount m → w < road·words → OutsideTables m (roadsAt m + road·words * r + w)
   road-outside r w hr hw = inl (omega (arith, vans-start m, tables-start m))
 
   pub row-outside : (p x : ℕ) → OutsideTables m (firstRowOf m p + x)
@@ -99,19 +100,19 @@ module _ (m : Map) (before after : List ℕ) (sized : length after ≡ length be
     roads = same 3 (head-outside m 3 (omega arith)) ∙ L .roads;
     parts = same 4 (head-outside m 4 (omega arith)) ∙ L .parts;
     part = λ p hp. record {
-      size = same (64 + 8 * p + 1) (part-outside m p 1 hp (omega arith)) ∙ L .part p hp .size;
-      first-row = same (64 + 8 * p + 2) (part-outside m p 2 hp (omega arith)) ∙ L .part p hp .first-row;
-      table = same (64 + 8 * p + 3) (part-outside m p 3 hp (omega arith)) ∙ L .part p hp .table;
+      size = same (partAt p + part·size) (part-outside m p part·size hp (omega arith)) ∙ L .part p hp .size;
+      first-row = same (partAt p + part·rows) (part-outside m p part·rows hp (omega arith)) ∙ L .part p hp .first-row;
+      table = same (partAt p + part·table) (part-outside m p part·table hp (omega arith)) ∙ L .part p hp .table;
     };
-    first-road = λ v hv. same (verticesAt m + 8 * v + 2) (vertex-outside m v 2 hv (omega arith)) ∙ L .first-road v hv;
+    first-road = λ v hv. same (verticesAt m + vertex·words * v + vertex·roads) (vertex-outside m v vertex·roads hv (omega arith)) ∙ L .first-road v hv;
     road = λ r hr. record {
-      from = ap (word after) (plus-none (roadsAt m + 4 * r)) ∙ same (roadsAt m + 4 * r + 0) (road-outside m r 0 hr (omega arith)) ∙ ap (word before) (sym (plus-none (roadsAt m + 4 * r))) ∙ L .road r hr .from;
-      to = same (roadsAt m + 4 * r + 1) (road-outside m r 1 hr (omega arith)) ∙ L .road r hr .to;
-      weight = same (roadsAt m + 4 * r + 2) (road-outside m r 2 hr (omega arith)) ∙ L .road r hr .weight;
+      from = ap (word after) (plus-none (roadsAt m + road·words * r)) ∙ same (roadsAt m + road·words * r + road·from) (road-outside m r road·from hr (omega arith)) ∙ ap (word before) (sym (plus-none (roadsAt m + road·words * r))) ∙ L .road r hr .from;
+      to = same (roadsAt m + road·words * r + road·to) (road-outside m r road·to hr (omega arith)) ∙ L .road r hr .to;
+      weight = same (roadsAt m + road·words * r + road·weight) (road-outside m r road·weight hr (omega arith)) ∙ L .road r hr .weight;
     };
     row = λ p i hp hi. record {
-      mark = moved (firstRowOf m p) (4 * i) 2 (row-outside m p (4 * i + 2)) ∙ L .row p i hp hi .mark;
-      below = moved (firstRowOf m p) (4 * i) 3 (row-outside m p (4 * i + 3)) ∙ L .row p i hp hi .below;
+      mark = moved (firstRowOf m p) (row·words * i) row·own (row-outside m p (row·words * i + row·own)) ∙ L .row p i hp hi .mark;
+      below = moved (firstRowOf m p) (row·words * i) row·below (row-outside m p (row·words * i + row·below)) ∙ L .row p i hp hi .below;
     };
   }
     where

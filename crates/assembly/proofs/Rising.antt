@@ -14,6 +14,7 @@ use Rattle.words.specs.Limits.{mostVertices, mostBorders}
 use Rattle.words.specs.Lists.{word, placeIn}
 use Rattle.words.proofs.Lists.{place-in}
 use Rattle.words.proofs.Places.{place-of-entry, numbered}
+use Rattle.layout.specs.Layout.{head·parts, part·size, part·table, partWord}
 use Rattle.roads.specs.Map.{Road, Map, partCount, noRoad}
 use Rattle.roads.specs.Dist.{dist}
 use Rattle.roads.proofs.Inner.{inner-start, inner-end}
@@ -67,7 +68,7 @@ module _ (start marked : List ℕ) (p : ℕ) where
   pub closed-first : ClosedTo 0 start
   closed-first m L hp home = record { lower = lower-none m p start; tight = λ k h. absurd (omega arith) }
 
-  pub closed-turn : {size table : ℕ} (before after : List ℕ) (k : ℕ) → k < size → size ≡ getD start (64 + 8 * p + 1) 0 → table ≡ getD start (64 + 8 * p + 3) 0 →
+  pub closed-turn : {size table : ℕ} (before after : List ℕ) (k : ℕ) → k < size → size ≡ partWord start p part·size → table ≡ partWord start p part·table →
       ClosedTo k before → HaltTried table size k marked before after → ClosedTo (k + 1) after
   closed-turn {size} {table} before after k hk size-is table-is done T m L hp home = elim (ℕ-discrete (word marked k) 1) [
     | yes halt ↦
@@ -102,7 +103,7 @@ module _ (start marked : List ℕ) (p : ℕ) where
       fits : k < sizeOf m p
       fits = omega (arith, L .part p hp .size)
 
-  pub closed-done : {size : ℕ} (mem : List ℕ) (k : ℕ) → k ≤ size → size ≤ k → size ≡ getD start (64 + 8 * p + 1) 0 → ClosedTo k mem →
+  pub closed-done : {size : ℕ} (mem : List ℕ) (k : ℕ) → k ≤ size → size ≤ k → size ≡ partWord start p part·size → ClosedTo k mem →
       (m : Map) → LaidForTables m start → p < partCount m → AtHome m p start → Closed m p (sizeOf m p) marked start mem
   closed-done mem k within all size-is done m L hp home = subst (λ (n : ℕ). Closed m p n marked start mem) (omega (arith, L .part p hp .size)) (done m L hp home)
 
@@ -230,7 +231,7 @@ module _ (m : Map) (mem one two three four : List ℕ) (L : LaidForTables m mem)
   }
 
 -- as the code has it
-pub risen-step : (mem one two three four : List ℕ) (p : ℕ) {size table wide : ℕ} {place : List ℕ} (marks marked : List ℕ) → mostBorders ≤ length marks → size ≡ getD mem (64 + 8 * p + 1) 0 → table ≡ getD mem (64 + 8 * p + 3) 0 →
+pub risen-step : (mem one two three four : List ℕ) (p : ℕ) {size table wide : ℕ} {place : List ℕ} (marks marked : List ℕ) → mostBorders ≤ length marks → size ≡ partWord mem p part·size → table ≡ partWord mem p part·table →
     Blanked table size mem one → ((m : Map) → LaidForTables m one → p < partCount m → mostVertices ≤ wide → Noted m p (sizeOf m p) place) →
     ((m : Map) → LaidForTables m one → p < partCount m → Noted m p (sizeOf m p) place → mostBorders ≤ length marks → Roads m p (sizeOf m p) one two marks marked) →
     ((m : Map) (low : ℕ) → LaidForTables m two → low ≤ p → p < partCount m → Agreed m low p (sizeOf m p) two three) →
@@ -252,14 +253,14 @@ module _ (start : List ℕ) (wide : ℕ) where
   abbrev pub RisenTo : ℕ → List ℕ → Type 0
   RisenTo p mem = (m : Map) → LaidForTables m start → mostVertices ≤ wide → Risen m p start mem
 
-  pub risen-first : {count : ℕ} → count ≡ getD start 4 0 → RisenTo count start
+  pub risen-first : {count : ℕ} → count ≡ word start head·parts → RisenTo count start
   risen-first count-is m L few = record {
     sized = refl;
     outside = λ x out. refl;
     inside = record { honest = λ q i j low hq. absurd (omega (arith, L .parts)); inner = λ q i j w low hq. absurd (omega (arith, L .parts)) };
   }
 
-  pub risen-turn : {count q : ℕ} (before after : List ℕ) (p : ℕ) → q ≤ count → count ≡ getD start 4 0 → suc p ≡ q → RisenTo q before →
+  pub risen-turn : {count q : ℕ} (before after : List ℕ) (p : ℕ) → q ≤ count → count ≡ word start head·parts → suc p ≡ q → RisenTo q before →
       ((m : Map) → LaidForTables m before → p < partCount m → mostVertices ≤ wide → Inside m (suc p) before → Risen m p before after) → RisenTo p after
   risen-turn before after p within count-is next done step m L few =
       let A = done m L few in

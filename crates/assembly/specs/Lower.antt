@@ -1,9 +1,10 @@
 -- Tables that are lowered and never below the distances: what every step of filling them keeps.
 use mathlib.Core.Path.{_≡_}
 use mathlib.Core.List.{List}
-use Prim.Native.Nat.{ℕ, _≤_, _<_, min}
-use lib.ListN.{length, getD, set}
+use Prim.Native.Nat.{ℕ, _≤_, _<_}
+use lib.ListN.{length, getD}
 use Rattle.words.specs.Lists.{word}
+use Rattle.cells.specs.Lowered.{lowered}
 use Rattle.roads.specs.Map.{Map, partCount}
 use Rattle.roads.specs.Walk.{Walk}
 use Rattle.roads.specs.Dist.{dist}
@@ -11,10 +12,6 @@ use Rattle.parts.specs.Size.{sizeOf}
 use Rattle.image.specs.Records.{rowVertex}
 use Rattle.inner_walks.specs.Inner.{Inner}
 use Rattle.assembly.specs.Laid.{tableEntry, OutsideTables}
-
--- word i becomes x where that is less
-abbrev pub lowered : List ℕ → ℕ → ℕ → List ℕ
-lowered mem i x = set mem i (min (getD mem i 0) x)
 
 -- the words a and b become the lesser of the two
 unfoldable pub leveled : List ℕ → ℕ → ℕ → List ℕ

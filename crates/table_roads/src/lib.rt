@@ -5,16 +5,21 @@ ghost use lib.ListN.{length};
 ghost use Rattle.words.specs.Limits.{mostVertices, mostBorders};
 ghost use Rattle.roads.specs.Map.{Map, partCount, roadCount};
 ghost use Rattle.parts.specs.Size.{sizeOf};
-ghost use Rattle.image.specs.Image.{firstRoadFrom};
 ghost use Rattle.assembly.specs.Laid.{LaidForTables};
 ghost use Rattle.assembly.specs.Steps.{Noted, HaltsMarked, RoadsOf, Roads};
 use cells::put;
 use cells::wide;
 use cells::word;
+use places::counts_in;
+use places::road_at;
+use road_lookup::first_road;
 use table_words::line_of;
-use table_words::lower;
-use table_words::of_part;
-use table_words::of_row;
+use cells::lower;
+use layout::PartRecord;
+use layout::RoadRecord;
+use layout::RowRecord;
+use layout::part_word;
+use layout::row_word;
 use table_words::part_of;
 use table_words::vertex_of;
 
@@ -23,25 +28,14 @@ pub fn note_rows(mem: &[u32], p: u32, place: &mut [u32])
     ensures { λ r. ⌜ ((m : Map) → LaidForTables m (now (mem .entry)) → p < partCount m → mostVertices ≤ length (now (place .entry)) → Noted m p (sizeOf m p) (now (place .exit))) ⌝ }
     ensures { λ r. ⌜ length (now (place .exit)) ≡ length (now (place .entry)) ⌝ }
 {
-    let size = of_part(mem, p, 1);
-    let first = of_part(mem, p, 2);
+    let size = part_word(mem, p, PartRecord::SIZE);
+    let first = part_word(mem, p, PartRecord::ROWS);
     let mut i: u32 = 0;
     while i < size {
-        let v = vertex_of(of_row(mem, first, i, 2));
+        let v = vertex_of(row_word(mem, first, i, RowRecord::OWN));
         put(place, wide(v), i);
         i += 1;
     }
-}
-
-// The number of the first road from vertex v or a later one.
-fn first_road(mem: &[u32], v: u32) -> u32
-    ensures { λ r. ⌜ ((m : Map) → LaidForTables m (now (mem .entry)) → v ≤ m .vertices → r ≡ firstRoadFrom m v) ⌝ }
-{
-    if v < word(mem, 2) {
-        let vertices = 64 + 8 * wide(word(mem, 4));
-        return word(mem, vertices + 8 * wide(v) + 2);
-    }
-    word(mem, 3)
 }
 
 // Rows i and j are marked as halts, unless one child d, e holds the vertices of both.
@@ -64,22 +58,22 @@ fn lower_by_road(mem: &mut [u32], place: &[u32], marks: &mut [u32], p: u32, i: u
     ensures { λ _. ⌜ length (now (mem .exit)) ≡ length (now (mem .entry)) ⌝ }
     ensures { λ _. ⌜ length (now (marks .exit)) ≡ length (now (marks .entry)) ⌝ }
 {
-    let road = 64 + 8 * wide(word(mem, 4)) + 8 * wide(word(mem, 2)) + 4 * wide(r);
-    let size = of_part(mem, p, 1);
-    let first = of_part(mem, p, 2);
-    let table = of_part(mem, p, 3);
+    let road = road_at(counts_in(mem), r);
+    let size = part_word(mem, p, PartRecord::SIZE);
+    let first = part_word(mem, p, PartRecord::ROWS);
+    let table = part_word(mem, p, PartRecord::TABLE);
     let from = word(mem, road);
-    let to = word(mem, road + 1);
-    let weight = word(mem, road + 2);
+    let to = word(mem, road + RoadRecord::TO);
+    let weight = word(mem, road + RoadRecord::WEIGHT);
     let j = word(place, wide(to));
-    let own = of_row(mem, first, i, 2);
+    let own = row_word(mem, first, i, RowRecord::OWN);
     if from != vertex_of(own) {
         return;
     }
     if size <= j {
         return;
     }
-    let other = of_row(mem, first, j, 2);
+    let other = row_word(mem, first, j, RowRecord::OWN);
     if to != vertex_of(other) {
         return;
     }
@@ -92,10 +86,11 @@ fn lower_by_roads(mem: &mut [u32], place: &[u32], marks: &mut [u32], p: u32, i: 
     ensures { λ r. ⌜ length (now (mem .exit)) ≡ length (now (mem .entry)) ⌝ }
     ensures { λ r. ⌜ length (now (marks .exit)) ≡ length (now (marks .entry)) ⌝ }
 {
-    let first = of_part(mem, p, 2);
-    let v = vertex_of(of_row(mem, first, i, 2));
-    let mut r = first_road(mem, v);
-    let end = first_road(mem, v + 1);
+    let first = part_word(mem, p, PartRecord::ROWS);
+    let v = vertex_of(row_word(mem, first, i, RowRecord::OWN));
+    let counts = counts_in(mem);
+    let mut r = first_road(mem, counts, v);
+    let end = first_road(mem, counts, v + 1);
     while r < end {
         lower_by_road(mem, place, marks, p, i, r);
         r += 1;
@@ -108,7 +103,7 @@ pub fn take_roads(mem: &mut [u32], place: &[u32], marks: &mut [u32], p: u32)
     ensures { λ r. ⌜ length (now (mem .exit)) ≡ length (now (mem .entry)) ⌝ }
     ensures { λ r. ⌜ length (now (marks .exit)) ≡ length (now (marks .entry)) ⌝ }
 {
-    let size = of_part(mem, p, 1);
+    let size = part_word(mem, p, PartRecord::SIZE);
     let mut i: u32 = 0;
     while i < size {
         lower_by_roads(mem, place, marks, p, i);

@@ -13,12 +13,14 @@ ghost use Rattle.assembly.specs.Lower.{Inside};
 ghost use Rattle.assembly.specs.Steps.{AtHome, HaltTried, Closed, EnteredRow, Entered, Risen, Descended};
 use cells::wide;
 use cells::word;
+use layout::HeadRecord;
+use layout::PartRecord;
+use layout::part_word;
 use table_pairs::agree;
 use table_roads::note_rows;
 use table_roads::take_roads;
 use table_rows::blank_at;
 use table_rows::try_at;
-use table_words::of_part;
 use table_words::row_below;
 
 // Row k is tried, if it is marked as a halt.
@@ -35,8 +37,8 @@ fn close(mem: &mut [u32], marks: &[u32], p: u32)
     ensures { λ r. ⌜ ((m : Map) → LaidForTables m (now (mem .entry)) → p < partCount m → AtHome m p (now (mem .entry)) → Closed m p (sizeOf m p) (now (marks .entry)) (now (mem .entry)) (now (mem .exit))) ⌝ }
     ensures { λ r. ⌜ length (now (mem .exit)) ≡ length (now (mem .entry)) ⌝ }
 {
-    let size = of_part(mem, p, 1);
-    let table = of_part(mem, p, 3);
+    let size = part_word(mem, p, PartRecord::SIZE);
+    let table = part_word(mem, p, PartRecord::TABLE);
     let mut k: u32 = 0;
     while k < size {
         try_halt(mem, marks, table, size, k);
@@ -50,8 +52,8 @@ fn rise(mem: &mut [u32], place: &mut [u32], p: u32)
     ensures { λ r. ⌜ length (now (mem .exit)) ≡ length (now (mem .entry)) ⌝ }
     ensures { λ r. ⌜ length (now (place .exit)) ≡ length (now (place .entry)) ⌝ }
 {
-    let size = of_part(mem, p, 1);
-    let table = of_part(mem, p, 3);
+    let size = part_word(mem, p, PartRecord::SIZE);
+    let table = part_word(mem, p, PartRecord::TABLE);
     let mut marks = [0u32; 128];
     blank_at(mem, table, size);
     note_rows(mem, p, place);
@@ -64,7 +66,7 @@ fn rise_parts(mem: &mut [u32], place: &mut [u32])
     ensures { λ r. ⌜ ((m : Map) → LaidForTables m (now (mem .entry)) → mostVertices ≤ length (now (place .entry)) → Risen m 0 (now (mem .entry)) (now (mem .exit))) ⌝ }
     ensures { λ r. ⌜ length (now (mem .exit)) ≡ length (now (mem .entry)) ⌝ }
 {
-    let mut p = word(mem, 4);
+    let mut p = word(mem, HeadRecord::PARTS);
     while 0 < p {
         p -= 1;
         rise(mem, place, p);
@@ -76,7 +78,7 @@ fn enter_row(mem: &mut [u32], p: u32, i: u32)
     ensures { λ r. ⌜ ((m : Map) → LaidForTables m (now (mem .entry)) → p < partCount m → i < sizeOf m p → Inside m 0 (now (mem .entry)) → EnteredRow m p i (now (mem .entry)) (now (mem .exit))) ⌝ }
     ensures { λ r. ⌜ length (now (mem .exit)) ≡ length (now (mem .entry)) ⌝ }
 {
-    let first = of_part(mem, p, 2);
+    let first = part_word(mem, p, PartRecord::ROWS);
     let b = row_below(mem, first, i);
     let c = b.part;
     if c == 0 {
@@ -89,7 +91,7 @@ fn enter_rows(mem: &mut [u32], p: u32)
     ensures { λ r. ⌜ ((m : Map) → LaidForTables m (now (mem .entry)) → p < partCount m → Inside m 0 (now (mem .entry)) → Entered m p (sizeOf m p) (now (mem .entry)) (now (mem .exit))) ⌝ }
     ensures { λ r. ⌜ length (now (mem .exit)) ≡ length (now (mem .entry)) ⌝ }
 {
-    let size = of_part(mem, p, 1);
+    let size = part_word(mem, p, PartRecord::SIZE);
     let mut i: u32 = 0;
     while i < size {
         enter_row(mem, p, i);
@@ -110,7 +112,7 @@ fn descend_parts(mem: &mut [u32])
     ensures { λ r. ⌜ ((m : Map) (start : List ℕ) → LaidForTables m start → Descended m 0 start (now (mem .entry)) → Descended m (partCount m) start (now (mem .exit))) ⌝ }
     ensures { λ r. ⌜ length (now (mem .exit)) ≡ length (now (mem .entry)) ⌝ }
 {
-    let count = word(mem, 4);
+    let count = word(mem, HeadRecord::PARTS);
     let mut p: u32 = 0;
     while p < count {
         descend(mem, p);

@@ -18,10 +18,10 @@ loop-holds : tie.Need-loop-holds Inv-loop μ-loop
 loop-holds c = (refl, refl, roads-first _ _ _ _ _ _)
 
 loop-again : tie.Need-loop-again Inv-loop μ-loop
-loop-again c = (c .before .before .before .before .lower-by-road .ensures .1 .0 ∙ c .before .before .before .before .before .before .before .before .loop .inv .0, c .before .before .before .before .lower-by-road .ensures .1 .1 ∙ c .before .before .before .before .before .before .before .before .loop .inv .1, roads-turn _ _ _ _ _ _ _ _ _ _ _ (c .before .before .before .before .before .before .before .before .loop .inv .1) (search needs) (c .before .before .before .before .before .before .before .before .before .before .before .before .before .before .before .before .of-part .ensures) (c .before .before .before .before .before .before .before .before .before .before .before .before .before .before .of-row .ensures) (c .before .before .before .before .before .before .before .before .before .before .before .before .before .vertex-of .ensures .1) (c .before .before .before .before .before .before .before .before .before .first-road2 .ensures) (c .before .before .before .before .before .before .before .before .loop .inv .2) (c .before .before .before .before .lower-by-road .ensures .0))
+loop-again c = (c .before .before .before .before .lower-by-road .ensures .1 .0 ∙ c .before .before .before .before .before .before .before .before .loop .inv .0, c .before .before .before .before .lower-by-road .ensures .1 .1 ∙ c .before .before .before .before .before .before .before .before .loop .inv .1, roads-turn _ _ _ _ _ _ _ _ _ _ _ (c .before .before .before .before .before .before .before .before .loop .inv .1) (search needs) (c .before .before .before .before .before .before .before .before .before .before .before .before .before .before .before .before .part-word .ensures) (c .before .before .before .before .before .before .before .before .before .before .before .before .before .before .row-word .ensures) (c .before .before .before .before .before .before .before .before .before .before .before .before .before .vertex-of .ensures .1) (c .before .before .before .before .before .before .before .before .before .first-road2 .ensures) (c .before .before .before .before .before .before .before .before .loop .inv .2) (c .before .before .before .before .lower-by-road .ensures .0))
 
 returns : tie.Need-returns Inv-loop μ-loop
-returns c = (roads-done _ _ _ _ _ _ _ _ _ (search needs) (c .before .before .before .before .before .before .before .before .before .of-part .ensures) (c .before .before .before .before .before .before .before .of-row .ensures) (c .before .before .before .before .before .before .vertex-of .ensures .1) (c .before .before .before .before .first-road .ensures) (c .before .before .first-road2 .ensures) (c .before .loop .inv .2), (c .before .loop .inv .0, c .before .loop .inv .1))
+returns c = (roads-done _ _ _ _ _ _ _ _ _ (search needs) (c .before .before .before .before .before .before .before .before .before .part-word .ensures) (c .before .before .before .before .before .before .before .row-word .ensures) (c .before .before .before .before .before .before .vertex-of .ensures .1) (c .before .before .before .before .first-road .ensures) (c .before .before .first-road2 .ensures) (c .before .loop .inv .2), (c .before .loop .inv .0, c .before .loop .inv .1))
 
 pub lower-by-roads-spec : {M : Type 1} → statement M
 lower-by-roads-spec =
