@@ -8,6 +8,7 @@ use lib.ListN.{set}
 use borrow.Author.Tests.{eq-eqb, ne-eqb}
 use Rattle.words.specs.Limits.{lastCount}
 use Rattle.words.specs.Lists.{word}
+use Rattle.layout.specs.Layout.{head·count}
 use Rattle.answers.specs.declared.Reply.the-variants.{Accepted, CountUsedUp}
 use Rattle.counts.specs.declared.Counts.{Counts}
 use Rattle.fleet.specs.State.{absent}
@@ -57,27 +58,27 @@ module _ (mem : List ℕ) (counts : Counts) (van : ℕ) (old new : VanWords) (fr
   unfolding made
   makes-written was-not is-not e = rw (ne-eqb (old .state) 1 was-not, ne-eqb (new .state) 1 is-not) e
 
-module _ (mem : List ℕ) (counts : Counts) (van : ℕ) (old new : VanWords) (count : ℕ) (is : count ≡ word mem 5) where
-  pub last-answer : count ≡ lastCount → CountUsedUp ≡ counted (word mem 5)
-  last-answer last = rw (eq-eqb (word mem 5) lastCount (sym is ∙ last))
+module _ (mem : List ℕ) (counts : Counts) (van : ℕ) (old new : VanWords) (count : ℕ) (is : count ≡ word mem head·count) where
+  pub last-answer : count ≡ lastCount → CountUsedUp ≡ counted (word mem head·count)
+  last-answer last = rw (eq-eqb (word mem head·count) lastCount (sym is ∙ last))
 
   pub last-words : count ≡ lastCount → mem ≡ settled mem counts van old new
   unfolding settled
-  last-words last = rw (eq-eqb (word mem 5) lastCount (sym is ∙ last))
+  last-words last = rw (eq-eqb (word mem head·count) lastCount (sym is ∙ last))
 
-  pub next-answer : (count ≡ lastCount → ⊥) → Accepted (count + 1) ≡ counted (word mem 5)
-  next-answer more = rw (ne-eqb (word mem 5) lastCount (λ e. more (is ∙ e)), is)
+  pub next-answer : (count ≡ lastCount → ⊥) → Accepted (count + 1) ≡ counted (word mem head·count)
+  next-answer more = rw (ne-eqb (word mem head·count) lastCount (λ e. more (is ∙ e)), is)
 
-  pub next-words : (first end : List ℕ) (words : VanWords) → (count ≡ lastCount → ⊥) → first ≡ set mem 5 (count + 1) → words ≡ stamped new (count + 1)
+  pub next-words : (first end : List ℕ) (words : VanWords) → (count ≡ lastCount → ⊥) → first ≡ set mem head·count (count + 1) → words ≡ stamped new (count + 1)
       → end ≡ made first counts van old words → end ≡ settled mem counts van old new
   unfolding settled
-  next-words first end words more f w e = rw (ne-eqb (word mem 5) lastCount (λ z. more (is ∙ z))) (e ∙ both)
+  next-words first end words more f w e = rw (ne-eqb (word mem head·count) lastCount (λ z. more (is ∙ z))) (e ∙ both)
     where
-      first′ : first ≡ set mem 5 (word mem 5 + 1)
-      first′ = f ∙ ap (λ (k : ℕ). set mem 5 (k + 1)) is
+      first′ : first ≡ set mem head·count (word mem head·count + 1)
+      first′ = f ∙ ap (λ (k : ℕ). set mem head·count (k + 1)) is
 
-      words′ : words ≡ stamped new (word mem 5 + 1)
+      words′ : words ≡ stamped new (word mem head·count + 1)
       words′ = w ∙ ap (λ (k : ℕ). stamped new (k + 1)) is
 
-      both : made first counts van old words ≡ made (set mem 5 (word mem 5 + 1)) counts van old (stamped new (word mem 5 + 1))
+      both : made first counts van old words ≡ made (set mem head·count (word mem head·count + 1)) counts van old (stamped new (word mem head·count + 1))
       both i = made (first′ i) counts van old (words′ i)

@@ -9,6 +9,7 @@ use native.Mathlib.Decide.{ℕ-discrete}
 use borrow.Author.Tests.{eq-eqb, ne-eqb}
 use Rattle.words.specs.Limits.{lastCount}
 use Rattle.words.specs.Lists.{word}
+use Rattle.layout.specs.Layout.{head·count}
 use Rattle.roads.specs.Map.{Map}
 use Rattle.maps.specs.Sound.{Sound}
 use Rattle.answers.specs.declared.Reply.{Reply}
@@ -75,18 +76,18 @@ module _ (mem : List ℕ) (c : Change) (counts : Counts) (van : ℕ) (old : VanW
       }
 
   module _ (w : VanWords) (is : verdict ≡ Stand w) (r : Reply) (after : List ℕ)
-      (answer : r ≡ counted (word mem 5)) (words : after ≡ settled mem counts van old w) where
-    used-up : word mem 5 ≡ lastCount → (r ≡ CountUsedUp) × (after ≡ mem)
+      (answer : r ≡ counted (word mem head·count)) (words : after ≡ settled mem counts van old w) where
+    used-up : word mem head·count ≡ lastCount → (r ≡ CountUsedUp) × (after ≡ mem)
     unfolding settled
-    used-up last = (answer ∙ rw (eq-eqb (word mem 5) lastCount last), words ∙ rw (eq-eqb (word mem 5) lastCount last))
+    used-up last = (answer ∙ rw (eq-eqb (word mem head·count) lastCount last), words ∙ rw (eq-eqb (word mem head·count) lastCount last))
 
-    goes : (word mem 5 ≡ lastCount → ⊥) → r ≡ Accepted (word mem 5 + 1)
-    goes more = answer ∙ rw (ne-eqb (word mem 5) lastCount more)
+    goes : (word mem head·count ≡ lastCount → ⊥) → r ≡ Accepted (word mem head·count + 1)
+    goes more = answer ∙ rw (ne-eqb (word mem head·count) lastCount more)
 
     right : (m : Map) (s : State) → Sound m → Good m s → mem ≡ image m s → inRange c ≡ true → (answered r ≡ step m s c .answer) × (after ≡ image m (step m s c .state))
     right m s sound good e ok = elim (ℕ-discrete (s .count) lastCount) [ yes last ↦ refuses last | no more ↦ accepts more ]
       where
-        count : word mem 5 ≡ s .count
+        count : word mem head·count ≡ s .count
         count = ap (λ (l : List ℕ). word l 5) e ∙ count-read m s (good .slots)
 
         a : Agrees m s c (Stand w)
@@ -128,11 +129,11 @@ module _ (mem : List ℕ) (c : Change) (counts : Counts) (van : ℕ) (old : VanW
         record {
           right = right;
           refusal = λ n same.
-              elim (ℕ-discrete (word mem 5) lastCount) [
+              elim (ℕ-discrete (word mem head·count) lastCount) [
                 | yes last ↦ used-up last .1
                 | no more ↦ let z : _≡_ {A = ℕ} 0 1 = differ (sym (ap answered (goes more)) ∙ same) in absurd (omega arith)
               ];
-          neither = elim (ℕ-discrete (word mem 5) lastCount) [
+          neither = elim (ℕ-discrete (word mem head·count) lastCount) [
             | yes last ↦ rw (used-up last .0) (λ e. omega arith, λ e. omega arith)
             | no more ↦ rw (goes more) (λ e. omega arith, λ e. omega arith)
           ];

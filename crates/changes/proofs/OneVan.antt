@@ -12,6 +12,7 @@ use borrow.Author.Tests.{eq-eqb, ne-eqb}
 use Rattle.words.specs.Limits.{vans}
 use Rattle.words.specs.Lists.{word}
 use Rattle.words.proofs.Tests.{clash}
+use Rattle.layout.specs.Layout.{vertex·vans}
 use Rattle.roads.specs.Map.{Map}
 use Rattle.maps.specs.Sound.{Sound}
 use Rattle.places.specs.Place.{vertexAddress}
@@ -93,7 +94,7 @@ module _ (m : Map) (sound : Sound m) (s : State) (slots : length (s .vans) ≡ v
         half : RowsOld m s (withSlot s n new) (takenOut (image m s) (countsOf m) n p (standingWords new))
         half = rows-old m s (withSlot s n new) slots anew refl _ out (out-only m (countsOf m) s slots (image m s) parked n is-van new p vertex)
 
-        first : word (takenOut (image m s) (countsOf m) n p (standingWords new)) (vertexAddress (countsOf m) p + 4) ≡ linkFrom m (withSlot s n new) p 0
+        first : word (takenOut (image m s) (countsOf m) n p (standingWords new)) (vertexAddress (countsOf m) p + vertex·vans) ≡ linkFrom m (withSlot s n new) p 0
         first = out .first p vertex
 
     pub image-arrived : ((v : ℕ) → headsAt m s v n ≡ false) → headsFor m p new ≡ true → vanArrived (image m s) (countsOf m) n p (standingWords new) ≡ image m (withSlot s n new)

@@ -6,6 +6,7 @@ use lib.ListN.{set}
 use lib.Dec.{eqb}
 use Rattle.words.specs.Limits.{lastCount}
 use Rattle.words.specs.Lists.{word}
+use Rattle.layout.specs.Layout.{head·count, vertex·vans}
 use Rattle.answers.specs.declared.Reply.{Reply}
 use Rattle.answers.specs.declared.Reply.the-variants.{Accepted, CountUsedUp}
 use Rattle.counts.specs.declared.Counts.{Counts}
@@ -19,7 +20,7 @@ use Rattle.row_refresh.specs.Model.{switched}
 
 -- the first van of the vertex's list
 abbrev pub firstVanIn : List ℕ → Counts → ℕ → ℕ
-firstVanIn mem counts vertex = word mem (vertexAddress counts vertex + 4)
+firstVanIn mem counts vertex = word mem (vertexAddress counts vertex + vertex·vans)
 
 -- the vertex switched where `others`, the first of the other vans in its list, is none
 unfoldable pub switchedAlone : List ℕ → ℕ → ℕ → Bool → List ℕ
@@ -51,4 +52,4 @@ abbrev pub counted : ℕ → Reply
 counted count = cond (eqb count lastCount) CountUsedUp (Accepted (count + 1))
 
 unfoldable pub settled : List ℕ → Counts → ℕ → (old new : VanWords) → List ℕ
-settled mem counts van old new = cond (eqb (word mem 5) lastCount) mem (made (set mem 5 (word mem 5 + 1)) counts van old (stamped new (word mem 5 + 1)))
+settled mem counts van old new = cond (eqb (word mem head·count) lastCount) mem (made (set mem head·count (word mem head·count + 1)) counts van old (stamped new (word mem head·count + 1)))

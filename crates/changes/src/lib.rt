@@ -8,6 +8,8 @@ use counts::Counts;
 use counts::is_within;
 use fleet::Change;
 use head::opened_head;
+use layout::HeadRecord;
+use layout::VertexRecord;
 use places::counts_in;
 use places::vertex_at;
 use refusals::Verdict;
@@ -46,7 +48,7 @@ fn depart(mem: &mut [u32], counts: Counts, van: u32, vertex: u32, words: VanWord
     ensures { λ _. ⌜ now (mem .exit) ≡ vanDeparted (now (mem .entry)) counts van vertex words ⌝ }
 {
     take_out(mem, counts, van, vertex, words);
-    let others = word(mem, vertex_at(counts, vertex) + 4);
+    let others = word(mem, vertex_at(counts, vertex) + VertexRecord::VANS);
     switch_alone(mem, vertex, others, false);
 }
 
@@ -55,7 +57,7 @@ fn arrive(mem: &mut [u32], counts: Counts, van: u32, vertex: u32, words: VanWord
     requires { ⌜ van < vans ⌝ }
     ensures { λ _. ⌜ now (mem .exit) ≡ vanArrived (now (mem .entry)) counts van vertex words ⌝ }
 {
-    let others = word(mem, vertex_at(counts, vertex) + 4);
+    let others = word(mem, vertex_at(counts, vertex) + VertexRecord::VANS);
     put_in(mem, counts, van, vertex, words);
     switch_alone(mem, vertex, others, true);
 }
@@ -93,11 +95,11 @@ fn settle(mem: &mut [u32], counts: Counts, van: u32, old: VanWords, new: VanWord
     requires { ⌜ van < vans ⌝ }
     ensures { λ r. ⌜ (r ≡ counted (word (now (mem .entry)) 5)) × (now (mem .exit) ≡ settled (now (mem .entry)) counts van old new) ⌝ }
 {
-    let count = word(mem, 5);
+    let count = word(mem, HeadRecord::COUNT);
     if count == VanWords::LAST_STAMP {
         return Reply::CountUsedUp;
     }
-    put(mem, 5, count + 1);
+    put(mem, HeadRecord::COUNT, count + 1);
     make(mem, counts, van, old, new.stamped(count + 1));
     Reply::Accepted(count + 1)
 }
@@ -164,6 +166,6 @@ pub fn change(mem: &mut [u32], change: Change) -> Reply
     if !in_range(change) {
         return Reply::OutOfRange;
     }
-    let used = wide(word(mem, 1));
+    let used = wide(word(mem, HeadRecord::USED));
     change_in(&mut mem[..used], change)
 }

@@ -6,6 +6,7 @@ use mathlib.Core.List.{List}
 use Prim.Native.Nat.{ℕ, _+_}
 use lib.Dec.{leb, ltb, eqb}
 use Rattle.words.specs.Lists.{word}
+use Rattle.layout.specs.Layout.{road·weight}
 use Rattle.answers.specs.declared.Reply.the-variants.{NoVan, AlreadyPresent, NoRoad, OffsetAboveWeight, Held, NotHeldByDesk, StampDiffers}
 use Rattle.counts.specs.declared.Counts.{Counts}
 use Rattle.places.specs.Place.{roadAddress}
@@ -28,7 +29,7 @@ deskOf (Release van desk) = desk
 
 -- the weight of a road, in any words
 abbrev pub weightIn : List ℕ → Counts → ℕ → ℕ
-weightIn mem counts road = word mem (roadAddress counts road + 2)
+weightIn mem counts road = word mem (roadAddress counts road + road·weight)
 
 abbrev pub placing : (state roads road weight offset : ℕ) → Verdict
 placing state roads road weight offset =

@@ -4,6 +4,7 @@ use answers::Reply;
 use cells::word;
 use counts::Counts;
 use fleet::Change;
+use layout::RoadRecord;
 use places::road_at;
 use road_lookup::road_between;
 use van_lists::VanWords;
@@ -21,7 +22,7 @@ pub enum Verdict {
 fn road_weight(mem: &[u32], counts: Counts, road: u32) -> u32
     ensures { λ r. ⌜ r ≡ weightIn (now (mem .entry)) counts road ⌝ }
 {
-    word(mem, road_at(counts, road) + 2)
+    word(mem, road_at(counts, road) + RoadRecord::WEIGHT)
 }
 
 // A place on a road of this weight, one of so many; the van's first word is `state`.

@@ -12,6 +12,7 @@ use borrow.Author.Tests.{lt-ltb, le-ltb}
 use Rattle.words.specs.Lists.{word, placeIn}
 use Rattle.words.proofs.Tests.{true-or-false}
 use Rattle.words.proofs.Lists.{place-in}
+use Rattle.layout.specs.Layout.{partAt}
 use Rattle.roads.specs.Map.{Map, partCount}
 use Rattle.roads.proofs.Trail.{Net}
 use Rattle.parts.specs.Tree.{parentOf, leafOf, level, holds, isLeaf, verticesOf}
@@ -26,7 +27,7 @@ use Rattle.image.specs.Records.{rowVertex}
 use Rattle.row_changes.specs.Switch.{Switched}
 use Rattle.row_changes.proofs.Switch.{switch-elsewhere}
 use Rattle.row_changes.proofs.Early.{unseen-rows, above-unchanged}
-use Rattle.row_refresh.specs.Model.{partAt, refreshed, touched, refreshedUp}
+use Rattle.row_refresh.specs.Model.{refreshed, touched, refreshedUp}
 use Rattle.row_memory.specs.Kept.{OutsideRows, Kept}
 use Rattle.row_memory.specs.Laid.{Few, LaidForRows, RowsShow}
 use Rattle.row_memory.specs.Refreshed.{Refreshed}

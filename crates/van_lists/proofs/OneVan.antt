@@ -14,6 +14,7 @@ use borrow.Author.Tests.{eq-eqb, ne-eqb}
 use Rattle.words.specs.Limits.{vans}
 use Rattle.words.specs.Lists.{word}
 use Rattle.words.proofs.Tests.{clash}
+use Rattle.layout.specs.Layout.{vertex·vans, van·words, van·next}
 use Rattle.roads.specs.Map.{Map}
 use Rattle.counts.specs.declared.Counts.{Counts}
 use Rattle.places.specs.Place.{vertexAddress, vanAddress}
@@ -91,12 +92,12 @@ module _ (m : Map) (counts : Counts) (s : State) (slots : length (s .vans) ≡ v
       record {
         long = rw (length-set, length-set) refl;
         other = λ i no-first no-van.
-            getD-set-other (set mem at r) (vanAddress counts n + 4) i link 0 (λ e. no-van n 4 is-van (omega arith) e)
+            getD-set-other (set mem at r) (vanAddress counts n + van·next) i link 0 (λ e. no-van n 4 is-van (omega arith) e)
             ∙ getD-set-other mem at i r 0 (away spot i no-first no-van);
       }
     where
-      away : LinkAt m counts s p a at → (i : ℕ) → ((v : ℕ) → v < counts .vertices → i ≡ vertexAddress counts v + 4 → ⊥)
-          → ((x f : ℕ) → x < vans → f < 8 → i ≡ vanAddress counts x + f → ⊥) → i ≡ at → ⊥
+      away : LinkAt m counts s p a at → (i : ℕ) → ((v : ℕ) → v < counts .vertices → i ≡ vertexAddress counts v + vertex·vans → ⊥)
+          → ((x f : ℕ) → x < vans → f < van·words → i ≡ vanAddress counts x + f → ⊥) → i ≡ at → ⊥
       away (vertex-link start e) i no-first no-van same = no-first p is-vertex (same ∙ e)
       away (van-link q after q-van q-heads e) i no-first no-van same = no-van q 4 q-van (omega arith) (same ∙ e)
 
@@ -110,11 +111,11 @@ module _ (m : Map) (counts : Counts) (s : State) (slots : length (s .vans) ≡ v
     parked-out was away =
         complete m counts n _ (standingWords new) (withSlot s n new) 0
         (but-link m counts (withSlot s n new) n _ 0 _
-        (but-linked m counts s slots mem g n is-van new p (behind mem counts p n) (word mem (vanAddress counts n + 4)) is-vertex spot (next ∙ sym (link-without m s slots n is-van new counts p _ spot (away p))) elsewhere))
+        (but-linked m counts s slots mem g n is-van new p (behind mem counts p n) (word mem (vanAddress counts n + van·next)) is-vertex spot (next ∙ sym (link-without m s slots n is-van new counts p _ spot (away p))) elsewhere))
         is-van (record-new 0 (sym (no-link m (withSlot s n new) n new away)))
       where
-        next : word mem (vanAddress counts n + 4) ≡ linkFrom m s p (suc n)
-        next = field mem (vanAddress counts n) 8 _ 4 (omega arith) (g .van n is-van ∙ record-of-slot m s n (slotOf s n)) ∙ next-link m s n p (slotOf s n) was
+        next : word mem (vanAddress counts n + van·next) ≡ linkFrom m s p (suc n)
+        next = field mem (vanAddress counts n) van·words _ 4 (omega arith) (g .van n is-van ∙ record-of-slot m s n (slotOf s n)) ∙ next-link m s n p (slotOf s n) was
 
         elsewhere : (v : ℕ) → (v ≡ p → ⊥) → headsFor m v new ≡ headsAt m s v n
         elsewhere v other = away v ∙ sym (one-head m v p (slotOf s n) was other)
