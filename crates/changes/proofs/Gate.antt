@@ -24,7 +24,7 @@ use Rattle.calls.specs.Head.{opened, usedOf, Shows}
 use Rattle.calls.specs.Outcome.{Changed}
 use Rattle.calls.proofs.Head.{opened-fits, used-word, shown-opened}
 use Rattle.calls.proofs.Screen.{screened-unopened, screened-range, screened-neither}
-use Rattle.changes.specs.Done.{Done}
+use Rattle.changes.specs.Done.{ChangeDone}
 
 -- ranges
 
@@ -85,7 +85,7 @@ module _ (c : Change) (mem : List ℕ) where
 
   -- the change on the words used
   pub changed-inside : (used : ℕ) (answer : Answer) (out : List ℕ) → opened mem ≡ true → inRange c ≡ true → used ≡ usedOf mem
-      → length out ≡ length (take used mem) → Done c (take used mem) answer out → Changed c mem answer (out ++ drop used mem)
+      → length out ≡ length (take used mem) → ChangeDone c (take used mem) answer out → Changed c mem answer (out ++ drop used mem)
   changed-inside used answer out there ok is sized done =
       record {
         screened = screened-neither there ok (done .neither);

@@ -19,7 +19,7 @@ use Rattle.map_bytes.specs.Each.{eachFrom}
 use Rattle.map_bytes.proofs.Each.{each-all}
 use Rattle.map_roads.specs.Road.{roadTest}
 use Rattle.map_roads.proofs.Roads.{roads-fit-is}
-use Rattle.map_parts.specs.Part.{Shows}
+use Rattle.map_parts.specs.Part.{ShowsPartsOf}
 use Rattle.map_borders.specs.Mark.{fewAt}
 use Rattle.map_borders.specs.Sizes.{Given, Sizes}
 use Rattle.map_borders.proofs.Earlier.{told as known}

@@ -16,7 +16,7 @@ use Rattle.maps.specs.Rules.{countsFit}
 use Rattle.maps.specs.Judge.{sound, judge}
 use Rattle.maps.proofs.Judged.{numbers-length, number-is, judged-shown}
 use Rattle.map_bytes.specs.Copied.{Copied}
-use Rattle.map_parts.specs.Part.{Shows}
+use Rattle.map_parts.specs.Part.{ShowsPartsOf}
 use Rattle.map_borders.specs.Sizes.{Given}
 use Rattle.map_judge.specs.Bodies.{theCounts, parentsBody, leavesBody, roadsBody, Limited}
 

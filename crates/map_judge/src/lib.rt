@@ -17,7 +17,7 @@ ghost use Rattle.words.specs.Lists.{word};
 ghost use Rattle.roads.specs.Map.{Map};
 ghost use Rattle.maps.specs.Bytes.{countsOf, decode, roadsOf};
 ghost use Rattle.maps.specs.Judge.{restFits, judge};
-ghost use Rattle.map_parts.specs.Part.{Shows};
+ghost use Rattle.map_parts.specs.Part.{ShowsPartsOf};
 ghost use Rattle.map_judge.specs.Bodies.{theCounts, leavesBody, roadsBody, Limited};
 ghost use Rattle.map_judge.specs.Need.{needOf};
 ghost use Rattle.map_judge.specs.Verdict.{said, due, ruled};
@@ -108,7 +108,7 @@ fn need(counts: Counts, sizes: &[u32; 512]) -> u32
 // The judgement by the rules of the map with these parents, leaves and roads.
 fn judge_rules(parents: &[u32], leaves: &[u32], body: &[u8], counts: Counts) -> Judgement
     requires { ⌜ Limited (theCounts (counts .vertices) (counts .roads) (counts .parts)) ⌝ }
-    ensures { λ r. ⌜ ((m : Map) → Shows m (now (parents .entry)) (now (leaves .entry)) (counts .vertices) (counts .parts) → m .roads ≡ roadsOf (counts .roads) (now (body .entry)) → said r ≡ ruled m) ⌝ }
+    ensures { λ r. ⌜ ((m : Map) → ShowsPartsOf m (now (parents .entry)) (now (leaves .entry)) (counts .vertices) (counts .parts) → m .roads ≡ roadsOf (counts .roads) (now (body .entry)) → said r ≡ ruled m) ⌝ }
 {
     let vertices = counts.vertices;
     let roads = counts.roads;
@@ -139,7 +139,7 @@ fn judge_rules(parents: &[u32], leaves: &[u32], body: &[u8], counts: Counts) -> 
 // The parent of each part and the leaf of each vertex, as the bodies of records 2 and 3 show them.
 fn show_parts(map: &[u8], counts: Counts, parents: &mut [u32; 512], leaves: &mut [u32; 4096])
     requires { ⌜ Limited (theCounts (counts .vertices) (counts .roads) (counts .parts)) × (length (now parents) ≡ 512) × (length (now leaves) ≡ 4096) ⌝ }
-    ensures { λ _. ⌜ (length (now (parents .exit)) ≡ 512) × (length (now (leaves .exit)) ≡ 4096) × Shows (decode (now (map .entry)) (theCounts (counts .vertices) (counts .roads) (counts .parts))) (now (parents .exit)) (now (leaves .exit)) (counts .vertices) (counts .parts) ⌝ }
+    ensures { λ _. ⌜ (length (now (parents .exit)) ≡ 512) × (length (now (leaves .exit)) ≡ 4096) × ShowsPartsOf (decode (now (map .entry)) (theCounts (counts .vertices) (counts .roads) (counts .parts))) (now (parents .exit)) (now (leaves .exit)) (counts .vertices) (counts .parts) ⌝ }
 {
     copy_numbers(rest(map, 18), counts.parts, parents);
     copy_numbers(rest(map, leaves_at(counts)), counts.vertices, leaves);

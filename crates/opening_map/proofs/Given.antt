@@ -19,7 +19,7 @@ use Rattle.opening_sections.specs.Counted.{Counted}
 
 -- the words that the sections' functions are lent show the map
 pub shown-by : (m : Map) (parents leaves body lifts sizes : List ℕ) (v r p used : ℕ) → Given m parents leaves body v r p → Sound m → Counted m v r p used → Lifts m lifts → Sizes m sizes
-    → sections.Shown m parents leaves body lifts sizes v r p used
+    → sections.MapShown m parents leaves body lifts sizes v r p used
 shown-by m parents leaves body lifts sizes v r p used given is-sound counted is-lifts is-sizes =
     record {
       sound = is-sound;

@@ -17,7 +17,7 @@ use Rattle.parts.proofs.Gates.{no-first-child, some-first-child}
 use Rattle.counts.specs.declared.Counts.{Counts}
 use Rattle.fleet.specs.State.{State}
 use Rattle.fleet.specs.Question.{Listed, nearest}
-use Rattle.places.specs.Place.{countsIn, vertexAt}
+use Rattle.places.specs.Place.{countsIn, vertexAddress}
 use Rattle.best_list.specs.Best.{entries, limitOf, offeredAll, InOrder}
 use Rattle.van_offers.specs.Offers.{stampIn, rowOffers}
 use Rattle.far_sums.specs.Least.{Least}
@@ -266,7 +266,7 @@ stands-still so goes =
 
 -- The start.
 module _ (mem : List ℕ) (x k : ℕ) (dx keys waits : List ℕ) (some : 1 ≤ k) (most : k ≤ 32) (fresh : Fresh dx keys waits) {counts : Counts} {leaf place at : ℕ} {dx₁ dx′ keys′ fars vans : List ℕ}
-    {len keyed : ℕ} (isCounts : counts ≡ countsIn mem) (isLeaf′ : leaf ≡ word mem (vertexAt counts x + 0)) (isPlace : place ≡ word mem (vertexAt counts x + 1)) (isAt : at ≡ x) (isStart : dx₁ ≡ set dx at 0)
+    {len keyed : ℕ} (isCounts : counts ≡ countsIn mem) (isLeaf′ : leaf ≡ word mem (vertexAddress counts x + 0)) (isPlace : place ≡ word mem (vertexAddress counts x + 1)) (isAt : at ≡ x) (isStart : dx₁ ≡ set dx at 0)
     (taken : OwnTaken mem leaf place dx₁ k dx′ fars vans len) (isKeyed : keyed ≡ leaf) (isKeys : keys′ ≡ lowered keys keyed 0) where
   pub begun : (out : ℕ) → Stands k keys′ fars vans (record { len = len; part = leaf; out = out; waiting = 0; from = 0; ended = false })
   begun out =
@@ -295,10 +295,10 @@ module _ (mem : List ℕ) (x k : ℕ) (dx keys waits : List ℕ) (some : 1 ≤ k
       start-is = isStart ∙ ap (λ (i : ℕ). set dx i 0) isAt
 
       leaf-is : leaf ≡ leafOf m x
-      leaf-is = isLeaf′ ∙ ap (λ (c : Counts). word mem (vertexAt c x + 0)) isCounts ∙ leaf-read g x hx
+      leaf-is = isLeaf′ ∙ ap (λ (c : Counts). word mem (vertexAddress c x + 0)) isCounts ∙ leaf-read g x hx
 
-      place-is : place ≡ word mem (vertexAt (countsIn mem) x + 1)
-      place-is = isPlace ∙ ap (λ (c : Counts). word mem (vertexAt c x + 1)) isCounts
+      place-is : place ≡ word mem (vertexAddress (countsIn mem) x + 1)
+      place-is = isPlace ∙ ap (λ (c : Counts). word mem (vertexAddress c x + 1)) isCounts
 
       looks : (Alone mem (partWord mem leaf 2) (rowsIn mem leaf) dx₁ place → Relaxed mem leaf true dx₁ dx′) × (listOf mem fars vans len ≡ offeredAll k [] (offersOf mem leaf dx′))
       looks = taken .looks (part-fits g leaf (omega (arith, leaf-is, sound-tree m (g .sound) .leaf-part x hx))) (own-row g x hx k some dx (fresh .no-distance) room start-is leaf leaf-is place place-is)

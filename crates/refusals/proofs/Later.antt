@@ -15,10 +15,10 @@ use Rattle.fleet.specs.declared.Change.{Change}
 use Rattle.fleet.specs.declared.Change.the-variants.{Add, Move, Remove, Claim, Release}
 use Rattle.fleet.specs.Change.{numberOf}
 use Rattle.van_lists.specs.declared.VanWords.{VanWords}
-use Rattle.van_lists.specs.Slot.{wordsOf}
+use Rattle.van_lists.specs.Slot.{standingWords}
 use Rattle.refusals.specs.declared.Verdict.{Verdict}
 use Rattle.refusals.specs.declared.Verdict.the-variants.{Refuse, Stand}
-use Rattle.refusals.specs.Verdict.{weightIn, placing, adding, moving, removing, claiming, releasing, Judged}
+use Rattle.refusals.specs.Verdict.{weightIn, placing, adding, moving, removing, claiming, releasing, HasVerdict}
 
 -- a refusal that is neither 6 nor 7
 abbrev pub Later : Verdict → Type 0
@@ -56,8 +56,8 @@ module _ (old : VanWords) where
 
   removing-later : Later (removing old)
   removing-later =
-      later-if (eqb (old .state) 0) (Refuse NoSuchVan) (cond (ltb 1 (old .state)) (Refuse VanHeld) (Stand (wordsOf absent))) no-van
-      (later-if (ltb 1 (old .state)) (Refuse VanHeld) (Stand (wordsOf absent)) held tt)
+      later-if (eqb (old .state) 0) (Refuse NoSuchVan) (cond (ltb 1 (old .state)) (Refuse VanHeld) (Stand (standingWords absent))) no-van
+      (later-if (ltb 1 (old .state)) (Refuse VanHeld) (Stand (standingWords absent)) held tt)
 
   claiming-later : (stamp desk : ℕ) → Later (claiming old stamp desk)
   claiming-later stamp desk =
@@ -78,7 +78,7 @@ module _ (old : VanWords) where
       stands : Verdict
       stands = Stand (record { state = 1; road = old .road; offset = old .offset; stamp = 0 })
 
-pub judged-later : (mem : List ℕ) (counts : Counts) (old : VanWords) (c : Change) (verdict : Verdict) → Judged mem counts old c verdict → Later verdict
+pub judged-later : (mem : List ℕ) (counts : Counts) (old : VanWords) (c : Change) (verdict : Verdict) → HasVerdict mem counts old c verdict → Later verdict
 judged-later mem counts old (Add van u v offset) verdict j = subst⁻¹ Later (j .is) (adding-later old (counts .roads) (j .road) (weightIn mem counts (j .road)) offset)
 judged-later mem counts old (Move van u v offset) verdict j = subst⁻¹ Later (j .is) (moving-later old (counts .roads) (j .road) (weightIn mem counts (j .road)) offset)
 judged-later mem counts old (Remove van) verdict j = subst⁻¹ Later j (removing-later old)
