@@ -1,13 +1,13 @@
--- `table_words::of_row` meets its contract.
+-- `layout::row_word` meets its contract.
 -- Assumes nothing.
 use borrow.Author.Needs.{needs}
-use Rattle.table_words.proofs.of_row.Statement.{statement}
-use Rattle.table_words.proofs.of_row.Tie as tie
+use Rattle.layout.proofs.row_word.Statement.{statement}
+use Rattle.layout.proofs.row_word.Tie as tie
 
 returns : tie.Need-returns
 returns c = rw (← c .before .before .wide .ensures, ← c .before .wide2 .ensures) (c .word .ensures)
 
-pub of-row-spec : {M : Type 1} → statement M
-of-row-spec =
+pub row-word-spec : {M : Type 1} → statement M
+row-word-spec =
     tie.close
     (tie.spec (search needs) (search needs) (search needs) (search needs) (search needs) (search needs) returns)

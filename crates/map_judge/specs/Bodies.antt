@@ -3,17 +3,17 @@ use Prim.Native.Nat.{ℕ, _+_, _≤_}
 use Rattle.words.specs.Limits.{mostVertices, mostRoads, mostParts}
 use Rattle.maps.specs.Bytes.{Counts, start2, start3, start4}
 
-abbrev pub asked : ℕ → ℕ → ℕ → Counts
-asked v r p = record { vertices = v; roads = r; parts = p }
+abbrev pub theCounts : ℕ → ℕ → ℕ → Counts
+theCounts v r p = record { vertices = v; roads = r; parts = p }
 
-abbrev pub parentsAt : ℕ
-parentsAt = start2 + 6
+abbrev pub parentsBody : ℕ
+parentsBody = start2 + 6
 
-abbrev pub leavesAt : Counts → ℕ
-leavesAt c = start3 c + 6
+abbrev pub leavesBody : Counts → ℕ
+leavesBody c = start3 c + 6
 
-abbrev pub roadsAt : Counts → ℕ
-roadsAt c = start4 c + 6
+abbrev pub roadsBody : Counts → ℕ
+roadsBody c = start4 c + 6
 
 -- the counts are within their limits
 pub record Limited (c : Counts) : Type 0 where

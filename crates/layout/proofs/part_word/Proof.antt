@@ -1,12 +1,12 @@
--- `table_words::of_part` meets its contract.
+-- `layout::part_word` meets its contract.
 -- Assumes nothing.
 use borrow.Author.Needs.{needs}
-use Rattle.table_words.proofs.of_part.Statement.{statement}
-use Rattle.table_words.proofs.of_part.Tie as tie
+use Rattle.layout.proofs.part_word.Statement.{statement}
+use Rattle.layout.proofs.part_word.Tie as tie
 
 returns : tie.Need-returns
 returns c = rw (← c .before .wide .ensures) (c .word .ensures)
 
-pub of-part-spec : {M : Type 1} → statement M
-of-part-spec =
+pub part-word-spec : {M : Type 1} → statement M
+part-word-spec =
     tie.close (tie.spec (search needs) (search needs) (search needs) (search needs) (search needs) returns)
