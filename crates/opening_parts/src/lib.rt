@@ -98,7 +98,16 @@ pub fn write_parts(
         let parent = word(parents, wide(p));
         let child = word(children, wide(p));
         let sibling = adopt(children, parent, p);
-        write_part(mem, HEAD_WORDS + PART_WORDS * p, parent, size, row, table, child, sibling);
+        write_part(
+            mem,
+            HEAD_WORDS + PART_WORDS * p,
+            parent,
+            size,
+            row,
+            table,
+            child,
+            sibling,
+        );
         next = p;
     }
 }

@@ -28,10 +28,9 @@ returns-4 c =
     let read = c .before .before .before .before .before .before .before .before .before .before .before .before .before .before .before .before .before .before in
     let tested = c .before .before .before .before .before .before .before .before .before .before .before .before in
     let marked = c .before .before .before .before .before .before .before .before .mark in
-    let lowered = c .before .before .lower in
-    (
+    let lowered = c .before .before .lower in (
       by-own _ _ _ _ _ _ (read .before .before .before .before .before .before .before .before .before .before .before .before .before .before .before .before .before .before .counts-in .ensures) (read .before .before .before .before .before .before .before .before .before .before .before .before .before .before .before .before .before .road-at .ensures) (read .before .before .before .before .before .before .before .before .before .before .before .before .before .before .before .part-word .ensures) (read .before .before .before .before .before .before .before .before .before .before .before .before .before .part-word2 .ensures) (read .before .before .before .before .before .before .before .before .before .before .before .part-word3 .ensures) (read .before .before .before .before .before .before .before .before .before .word .ensures) (read .before .before .before .before .before .before .before .word2 .ensures) (read .before .before .before .before .before .word3 .ensures) (read .before .before .before .before .wide .ensures) (read .before .before .before .word4 .ensures) (read .before .row-word .ensures) (read .vertex-of .ensures .1) (tested .before .before .row-word2 .ensures) (tested .before .vertex-of2 .ensures .1) (tested .before .before .before .before .before .if1 .left) (tested .before .before .before .before .if2 .left) (tested .if3 .left)
-      (c .before .before .before .before .line-of .ensures .0) (c .before .before .before .wide2 .ensures) (lowered .ensures) (c .before .before .before .before .before .before .before .before .before .before .part-of .ensures) (c .before .before .before .before .before .before .before .before .before .part-of2 .ensures) (marked .ensures .0),
+          (c .before .before .before .before .line-of .ensures .0) (c .before .before .before .wide2 .ensures) (lowered .ensures) (c .before .before .before .before .before .before .before .before .before .before .part-of .ensures) (c .before .before .before .before .before .before .before .before .before .part-of2 .ensures) (marked .ensures .0),
       (ap length (lowered .ensures) ∙ simp length-set, marked .ensures .1),
     )
 

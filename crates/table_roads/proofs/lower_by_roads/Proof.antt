@@ -25,8 +25,7 @@ loop-again c =
     let counts = c .before .before .before .before .before .before .before .before .before .before .before .before .before .counts-in in
     let own = c .before .before .before .before .before .before .before .before .before .before .before .before .before .before .before .vertex-of in
     let row = c .before .before .before .before .before .before .before .before .before .before .before .before .before .before .before .before .row-word in
-    let first = c .before .before .before .before .before .before .before .before .before .before .before .before .before .before .before .before .before .before .part-word in
-    (
+    let first = c .before .before .before .before .before .before .before .before .before .before .before .before .before .before .before .before .before .before .part-word in (
       lowered .ensures .1 .0 ∙ loop .inv .0,
       lowered .ensures .1 .1 ∙ loop .inv .1,
       roads-turn _ _ _ _ _ _ _ _ _ _ _ (loop .inv .1) (search needs) (first .ensures) (row .ensures) (own .ensures .1) (first-road-is _ _ (counts .ensures) (end .ensures)) (loop .inv .2) (lowered .ensures .0),
@@ -40,8 +39,7 @@ returns c =
     let counts = c .before .before .before .before .before .before .counts-in in
     let own = c .before .before .before .before .before .before .before .before .vertex-of in
     let row = c .before .before .before .before .before .before .before .before .before .row-word in
-    let first = c .before .before .before .before .before .before .before .before .before .before .before .part-word in
-    (
+    let first = c .before .before .before .before .before .before .before .before .before .before .before .part-word in (
       roads-done _ _ _ _ _ _ _ _ _ (search needs) (first .ensures) (row .ensures) (own .ensures .1) (first-road-is _ _ (counts .ensures) (start .ensures)) (first-road-is _ _ (counts .ensures) (end .ensures)) (loop .inv .2),
       (loop .inv .0, loop .inv .1),
     )
