@@ -1,12 +1,12 @@
 -- How a part of a memory reads, and what a store does to it.
 -- Assumes nothing.
-use mathlib.Core.Path.{_≡_, sym, _∙_, ap}
-use mathlib.Core.List.{List, _++_}
+use mathlib.Core.Path.{_≡_, _∙_, ap}
+use mathlib.Core.List.{List}
 use Prim.Native.Nat.{ℕ, _+_, _-_, _≤_, _<_}
 use native.Mathlib.Omega.{arith}
 use native.Mathlib.Decide.{decLt}
 use lib.ListN.{length, getD, set, take, drop, length-take, length-drop}
-use lib.Seq.{drop-set-add, drop-set-lt, take-set-lt, take-set-le, getD-take, getD-drop, take-add, drop-drop, take-append-seam, drop-append-seam, take-at, drop-at}
+use lib.Seq.{drop-set-add, drop-set-lt, take-set-lt, take-set-le, getD-take, getD-drop}
 use Rattle.cells.specs.Part.{part}
 
 pub part-length : (mem : List ℕ) (base size : ℕ) → base + size ≤ length mem → length (part mem base size) ≡ size
@@ -28,14 +28,3 @@ part-other mem base size i x away = elim (decLt i base) [ yes below ↦ ap (take
         let f : ℕ = i - base in
         let at : i ≡ base + f = omega arith in
         elim (decLt f size) [ yes inside ↦ absurd (away f inside at) | no outside ↦ rw at (rw drop-set-add (take-set-le size (drop base mem) f x (omega arith))) ]
-
--- two parts side by side
-pub part-join : (mem : List ℕ) (base a b : ℕ) → part mem base (a + b) ≡ part mem base a ++ part mem (base + a) b
-part-join mem base a b = take-add a b (drop base mem) ∙ ap (λ (l : List ℕ). take a (drop base mem) ++ take b l) (drop-drop a base mem)
-
--- the two halves of an equation between lists that are cut at the same place
-pub halves : (a b c d : List ℕ) → length a ≡ length c → a ++ b ≡ c ++ d → (a ≡ c) × (b ≡ d)
-halves a b c d same e = (
-  sym (take-append-seam a b) ∙ ap (take (length a)) e ∙ take-at c d (length a) (sym same),
-  sym (drop-append-seam a b) ∙ ap (drop (length a)) e ∙ drop-at c d (length a) (sym same),
-)

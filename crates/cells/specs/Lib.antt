@@ -1,2 +1,3 @@
--- Parts of a memory.
+-- Parts of a memory, and words that are lowered.
 pub mod Part
+pub mod Lowered

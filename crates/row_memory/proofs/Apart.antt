@@ -9,7 +9,7 @@ use Rattle.words.proofs.Sums.{record-within, sum-below}
 use Rattle.roads.specs.Map.{Map, partCount}
 use Rattle.parts.specs.Size.{sizeOf, tableWordsBelow, tableWords, rowsBelow, rowCount}
 use Rattle.image.specs.Places.{verticesAt, roadsAt, vansAt, tablesAt, rowsAt, itselfAt, tableOf, firstRowOf}
-use Rattle.row_refresh.specs.Model.{partAt}
+use Rattle.part_words.specs.Part.{partAt}
 use Rattle.row_memory.specs.Kept.{Outside}
 
 module _ (m : Map) (p : ℕ) (hp : p < partCount m) where

@@ -26,7 +26,8 @@ use Rattle.image.specs.Records.{rowVertex}
 use Rattle.row_changes.specs.Switch.{Switched}
 use Rattle.row_changes.proofs.Switch.{switch-elsewhere}
 use Rattle.row_changes.proofs.Early.{unseen-rows, above-unchanged}
-use Rattle.row_refresh.specs.Model.{partAt, refreshed, touched, refreshedUp}
+use Rattle.part_words.specs.Part.{partAt}
+use Rattle.row_refresh.specs.Model.{refreshed, touched, refreshedUp}
 use Rattle.row_memory.specs.Kept.{Outside, Kept}
 use Rattle.row_memory.specs.Laid.{Few, Laid, RowsShow}
 use Rattle.row_memory.specs.Refreshed.{Refreshed}
