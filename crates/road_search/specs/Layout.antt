@@ -1,24 +1,15 @@
--- Roads as words of the memory: four words a road, in rising order of the vertex that they leave, and for each vertex the number of its
--- first road out. Assumes nothing.
+-- A map's roads in the memory, in rising order of the vertex that they leave, and for each vertex the number of its first road out. Assumes nothing.
 use mathlib.Core.Path.{_≡_}
 use mathlib.Core.Bool.{cond}
-use mathlib.Core.List.{List, [], _∷_}
-use Prim.Native.Nat.{ℕ, zero, suc, _+_, _*_, _-_, _≤_, _<_}
+use mathlib.Core.List.{List}
+use Prim.Native.Nat.{ℕ, _+_, _*_, _-_, _≤_, _<_}
 use lib.Dec.{ltb}
 use lib.ListN.{length}
 use Rattle.words.specs.Limits.{mostVertices, mostWeight}
 use Rattle.words.specs.Lists.{word, keep}
 use Rattle.roads.specs.Map.{Road, Map, roadCount}
 use Rattle.roads.specs.Dist.{dist}
-
--- the road whose words start at `at`
-abbrev pub shownRoad : List ℕ → ℕ → Road
-shownRoad mem at = record { from = word mem at; to = word mem (at + 1); weight = word mem (at + 2) }
-
--- the k roads whose words start at `at`
-unfoldable pub shownRoads : List ℕ → ℕ → ℕ → List Road
-shownRoads mem at zero = []
-shownRoads mem at (suc k) = shownRoad mem at ∷ shownRoads mem (at + 4) k
+use Rattle.road_relax.specs.Relaxing.{shownRoad, shownRoads}
 
 -- the number of the first road out of v, in word 2 of its record
 abbrev pub firstOut : List ℕ → ℕ → ℕ → ℕ
@@ -29,8 +20,8 @@ abbrev pub nextOut : List ℕ → ℕ → ℕ → ℕ → ℕ → ℕ
 nextOut mem vertices n count v = cond (ltb (v + 1) n) (firstOut mem vertices (v + 1)) count
 
 -- the roads out of v
-unfoldable pub outOf : List ℕ → ℕ → ℕ → ℕ → ℕ → ℕ → List Road
-outOf mem vertices n roads count v =
+unfoldable pub roadsOut : List ℕ → ℕ → ℕ → ℕ → ℕ → ℕ → List Road
+roadsOut mem vertices n roads count v =
     shownRoads mem (roads + 4 * firstOut mem vertices v) (nextOut mem vertices n count v - firstOut mem vertices v)
 
 -- vertex v, of a map with n vertices and `count` roads: its first road out is no later than the next vertex's, nor than past all roads
@@ -47,7 +38,7 @@ pub record LaidRoad (mem : List ℕ) (vertices n j : ℕ) (r : Road) : Type 0 wh
   pub next : r .from + 1 < n → j < firstOut mem vertices (r .from + 1)
 
 -- a map with n vertices, of 8 words each from `vertices` on, and `count` roads, of 4 words each from `roads` on
-pub record Laid (mem : List ℕ) (vertices n roads count : ℕ) : Type 0 where
+pub record LaidMap (mem : List ℕ) (vertices n roads count : ℕ) : Type 0 where
   pub few : n ≤ mostVertices
   pub vertices-fit : vertices + 8 * n ≤ length mem
   pub roads-fit : roads + 4 * count ≤ length mem
@@ -69,15 +60,3 @@ pub record Shown (mem : List ℕ) (vertices roads : ℕ) (m : Map) : Type 0 wher
 abbrev pub Measured : List ℕ → ℕ → ℕ → ℕ → ℕ → List ℕ → Type 0
 Measured mem n roads count a labels =
     (m : Map) → m .vertices ≡ n → m .roads ≡ shownRoads mem roads count → (v : ℕ) → v < mostVertices → word labels v ≡ dist m a v
-
--- the road at `at` leaves u, and both its ends have labels
-pub record Leaves (mem : List ℕ) (at u : ℕ) : Type 0 where
-  pub fits : at + 4 ≤ length mem
-  pub from-u : word mem at ≡ u
-  pub from-below : u < mostVertices
-  pub to-below : word mem (at + 1) < mostVertices
-
--- so does each of the k roads from `at` on
-unfoldable pub Fan : List ℕ → ℕ → ℕ → ℕ → Type 0
-Fan mem at zero u = Unit {0}
-Fan mem at (suc k) u = Leaves mem at u × Fan mem (at + 4) k u

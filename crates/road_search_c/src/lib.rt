@@ -3,10 +3,11 @@
 ghost use mathlib.Core.Path.{_≡_};
 ghost use Prim.Native.Nat.{_+_, _*_, _≤_, _<_};
 ghost use lib.ListN.{length};
-ghost use Rattle.road_search.specs.Layout.{LaidVertex, LaidRoad, Laid, shownRoad};
+ghost use Rattle.road_search.specs.Layout.{LaidVertex, LaidRoad, LaidMap};
+ghost use Rattle.road_relax.specs.Relaxing.{shownRoad};
 ghost use Rattle.road_search_c.specs.Answer.{Decides, Each, Answered};
+use cells::wide;
 use road_search::distances;
-use road_search::index;
 
 // Whether vertex `v` is laid out as a search needs it.
 fn vertex_laid(mem: &[u32], vertices_at: usize, n: usize, count: usize, v: usize) -> bool
@@ -14,14 +15,14 @@ fn vertex_laid(mem: &[u32], vertices_at: usize, n: usize, count: usize, v: usize
     requires { ⌜ v < n ⌝ }
     ensures { λ r. ⌜ Decides r (LaidVertex (now (mem .entry)) «vertices_at» n count v) ⌝ }
 {
-    let first = index(mem[vertices_at + 8 * v + 2]);
+    let first = wide(mem[vertices_at + 8 * v + 2]);
     if count < first {
         return false;
     }
     if n <= v + 1 {
         return true;
     }
-    if index(mem[vertices_at + 8 * (v + 1) + 2]) < first {
+    if wide(mem[vertices_at + 8 * (v + 1) + 2]) < first {
         return false;
     }
     true
@@ -49,23 +50,23 @@ fn road_laid(mem: &[u32], vertices_at: usize, n: usize, roads_at: usize, j: usiz
     ensures { λ r. ⌜ Decides r (LaidRoad (now (mem .entry)) «vertices_at» n j (shownRoad (now (mem .entry)) («roads_at» + 4 * j))) ⌝ }
 {
     let at = roads_at + 4 * j;
-    let from = index(mem[at]);
+    let from = wide(mem[at]);
     if n <= from {
         return false;
     }
-    if n <= index(mem[at + 1]) {
+    if n <= wide(mem[at + 1]) {
         return false;
     }
     if 1000000 < mem[at + 2] {
         return false;
     }
-    if j < index(mem[vertices_at + 8 * from + 2]) {
+    if j < wide(mem[vertices_at + 8 * from + 2]) {
         return false;
     }
     if n <= from + 1 {
         return true;
     }
-    if index(mem[vertices_at + 8 * (from + 1) + 2]) <= j {
+    if wide(mem[vertices_at + 8 * (from + 1) + 2]) <= j {
         return false;
     }
     true
@@ -102,7 +103,7 @@ fn fits(len: usize, at: usize, size: usize) -> bool
 
 // Whether the words show roads as a search needs them.
 fn laid(mem: &[u32], vertices_at: usize, n: usize, roads_at: usize, count: usize) -> bool
-    ensures { λ r. ⌜ Decides r (Laid (now (mem .entry)) «vertices_at» n «roads_at» count) ⌝ }
+    ensures { λ r. ⌜ Decides r (LaidMap (now (mem .entry)) «vertices_at» n «roads_at» count) ⌝ }
 {
     if 4096 < n {
         return false;

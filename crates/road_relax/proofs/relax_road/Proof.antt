@@ -1,14 +1,14 @@
--- `road_search::relax_road` meets its contract: in each arm the stores are what `relax` and `wake` say. Assumes nothing.
-use Rattle.road_search.proofs.Model.{Seen, stored, passed}
+-- `road_relax::relax_road` meets its contract: in each arm the stores are what `relax` and `wake` say. Assumes nothing.
+use Rattle.road_relax.proofs.Relaxed.{Seen, stored, passed}
 use borrow.Author.Needs.{needs}
-use Rattle.road_search.proofs.relax_road.Statement.{statement}
-use Rattle.road_search.proofs.relax_road.Tie as tie
+use Rattle.road_relax.proofs.relax_road.Statement.{statement}
+use Rattle.road_relax.proofs.relax_road.Tie as tie
 
 -- what has been read where the test stands
-seen : (c : tie.After-wide3)
+seen : (c : tie.After-long3)
     → let s = c .before .before .before .before .before .before .before .before .before in
-    Seen (s .args .mem .now) (s .args .labels .now) (s .args .at) (s .args .u) (c .before .before .before .before .before .before .index .result)
-    (c .before .before .before .before .wide .result) (c .before .before .wide2 .result) (c .wide3 .result)
+    Seen (s .args .mem .now) (s .args .labels .now) (s .args .at) (s .args .u) (c .before .before .before .before .before .before .wide .result)
+    (c .before .before .before .before .long .result) (c .before .before .long2 .result) (c .long3 .result)
 seen c =
     record {
       leaves = search needs;

@@ -1,4 +1,4 @@
--- `road_search::first_waiting` meets its contract. The loop's invariant: no vertex passed waits. Assumes nothing.
+-- `waiting::first_waiting` meets its contract. The loop's invariant: no vertex passed waits. Assumes nothing.
 use borrow.Author.Count.{below-more}
 use Prim.Native.Nat.{ℕ, _≤_, _<_, _-_}
 use mathlib.Core.Path.{_≡_}
@@ -6,8 +6,8 @@ use lib.ListN.{getD}
 use Rattle.words.specs.Limits.{FAR}
 use borrow.Author.Needs.{needs}
 use native.Mathlib.Omega.{arith}
-use Rattle.road_search.proofs.first_waiting.Statement.{statement}
-use Rattle.road_search.proofs.first_waiting.Tie as tie
+use Rattle.waiting.proofs.first_waiting.Statement.{statement}
+use Rattle.waiting.proofs.first_waiting.Tie as tie
 
 abbrev Inv-loop : tie.InvT-loop
 Inv-loop keys n v₀ v = (v ≤ n) × ((k : ℕ) → k < v → getD keys k 0 ≡ FAR)

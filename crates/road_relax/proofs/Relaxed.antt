@@ -13,8 +13,8 @@ use Rattle.words.specs.Lists.{word}
 use Rattle.roads.specs.Map.{Road}
 use Rattle.roads.specs.Dist.{relax, relaxAll}
 use Rattle.roads.proofs.Labels.{label, relax-length}
-use Rattle.road_search.specs.Layout.{shownRoad, shownRoads, Leaves, Fan}
-use Rattle.road_search.specs.Waiting.{offer, wake, wakeAll}
+use Rattle.road_relax.specs.Relaxing.{shownRoad, shownRoads, Leaves, Fan}
+use Rattle.road_relax.specs.Relaxing.{offer, wake, wakeAll}
 
 -- an element that is there does not depend on what stands for the missing ones
 pub getD-there : (xs : List ℕ) (i d e : ℕ) → i < length xs → getD xs i d ≡ getD xs i e

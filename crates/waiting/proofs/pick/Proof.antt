@@ -1,8 +1,8 @@
--- `road_search::pick` meets its contract: the guess is taken only where it waits. Assumes nothing.
+-- `waiting::pick` meets its contract: the guess is taken only where it waits. Assumes nothing.
 use native.Mathlib.Omega.{arith}
 use borrow.Author.Needs.{needs}
-use Rattle.road_search.proofs.pick.Statement.{statement}
-use Rattle.road_search.proofs.pick.Tie as tie
+use Rattle.waiting.proofs.pick.Statement.{statement}
+use Rattle.waiting.proofs.pick.Tie as tie
 
 returns : tie.Need-returns
 returns c = record { waits = λ _. c .if2 .taken; none = λ past. absurd (omega arith) }
