@@ -1,4 +1,4 @@
-/* Opens the small map, places two vans and asks for the nearest to vertex 0.
+/* Opens the small map, places two vans, asks for the nearest to vertex 0, and lets two desks claim it.
  *
  *     cc -Iinclude examples/c/ask.c target/staticlib/libhailtrellis_c.a -o target/ask && target/ask
  */
@@ -51,5 +51,13 @@ int main(void)
 
     reply = hailtrellis_claim(memory, 8413, answer[0], answer[2], 1);
     printf("claimed by desk 1: %u, stamp %u\n", (unsigned)reply.code, (unsigned)reply.value);
+    reply = hailtrellis_claim(memory, 8413, answer[0], reply.value, 2);
+    if (reply.code == HAILTRELLIS_VAN_HELD) {
+        printf("desk 2 comes too late: the van is held\n");
+    }
+    reply = hailtrellis_release(memory, 8413, answer[0], 2);
+    if (reply.code == HAILTRELLIS_NOT_HELD_BY_DESK) {
+        printf("desk 2 cannot release it: another desk holds it\n");
+    }
     return 0;
 }

@@ -5,28 +5,28 @@ use mathlib.Core.List.{List, [], _∷_}
 use lib.ListN.{getD}
 use Rattle.fleet.specs.Change.{Answer, refused, accepted}
 use Rattle.answers.specs.declared.Reply.{Reply}
-use Rattle.answers.specs.declared.Reply.the-variants.{Accepted, BadRecord, BadCounts, BadParts, BadRoads, TooSmall, Unopened, OutOfRange, NoVan, AlreadyPresent, NoRoad, OffsetAboveWeight, Held, NotHeldByDesk, StampDiffers, CountUsedUp}
+use Rattle.answers.specs.declared.Reply.the-variants.{Accepted, MapRecord, MapCounts, MapParts, MapRoads, TooFewWords, NotOpened, OutOfRange, NoSuchVan, VanPresent, NoRoad, OffsetAboveWeight, VanHeld, NotHeldByDesk, StampDiffers, CountFull}
 use Rattle.answers.specs.Answered.{answered}
 
 -- the refusals by their numbers; what stands at 0 is no refusal
 refusals : List Reply
 refusals =
     Accepted 0
-    ∷ BadRecord
-    ∷ BadCounts
-    ∷ BadParts
-    ∷ BadRoads
-    ∷ TooSmall
-    ∷ Unopened
+    ∷ MapRecord
+    ∷ MapCounts
+    ∷ MapParts
+    ∷ MapRoads
+    ∷ TooFewWords
+    ∷ NotOpened
     ∷ OutOfRange
-    ∷ NoVan
-    ∷ AlreadyPresent
+    ∷ NoSuchVan
+    ∷ VanPresent
     ∷ NoRoad
     ∷ OffsetAboveWeight
-    ∷ Held
+    ∷ VanHeld
     ∷ NotHeldByDesk
     ∷ StampDiffers
-    ∷ CountUsedUp
+    ∷ CountFull
     ∷ []
 
 back : Answer → Reply
@@ -36,21 +36,21 @@ back (refused n) = getD refusals n (Accepted 0)
 back-is : (a : Reply) → back (answered a) ≡ a
 unfolding back refusals
 back-is (Accepted value) = refl
-back-is BadRecord = refl
-back-is BadCounts = refl
-back-is BadParts = refl
-back-is BadRoads = refl
-back-is TooSmall = refl
-back-is Unopened = refl
+back-is MapRecord = refl
+back-is MapCounts = refl
+back-is MapParts = refl
+back-is MapRoads = refl
+back-is TooFewWords = refl
+back-is NotOpened = refl
 back-is OutOfRange = refl
-back-is NoVan = refl
-back-is AlreadyPresent = refl
+back-is NoSuchVan = refl
+back-is VanPresent = refl
 back-is NoRoad = refl
 back-is OffsetAboveWeight = refl
-back-is Held = refl
+back-is VanHeld = refl
 back-is NotHeldByDesk = refl
 back-is StampDiffers = refl
-back-is CountUsedUp = refl
+back-is CountFull = refl
 
 pub answered-same : (a b : Reply) → answered a ≡ answered b → a ≡ b
 answered-same a b e = sym (back-is a) ∙ ap back e ∙ back-is b

@@ -7,35 +7,35 @@ pub enum Reply {
     // with the new stamp, the length of the list, or the start number
     Accepted(u32),
     // a map record has a wrong length or kind, is cut, or bytes follow
-    BadRecord,
+    MapRecord,
     // a count in record 1 is outside its limits
-    BadCounts,
+    MapCounts,
     // a rule for parts, leaves or the 128 borders is broken
-    BadParts,
+    MapParts,
     // a rule for roads is broken
-    BadRoads,
+    MapRoads,
     // memory is below the need, or answer words below 3 × k
-    TooSmall,
+    TooFewWords,
     // memory has no opened head
-    Unopened,
+    NotOpened,
     // van, desk, k or the asked vertex is outside its range
     OutOfRange,
     // no such van
-    NoVan,
+    NoSuchVan,
     // van already present
-    AlreadyPresent,
+    VanPresent,
     // no road (u, v), also where u or v is no vertex
     NoRoad,
     // offset above the weight
     OffsetAboveWeight,
     // van is held
-    Held,
+    VanHeld,
     // van is not held by this desk
     NotHeldByDesk,
     // stamp differs from the van's
     StampDiffers,
     // change count is 4,294,967,295
-    CountUsedUp,
+    CountFull,
 }
 
 impl Reply {
@@ -45,21 +45,21 @@ impl Reply {
     {
         match self {
             Reply::Accepted(_) => 0,
-            Reply::BadRecord => 1,
-            Reply::BadCounts => 2,
-            Reply::BadParts => 3,
-            Reply::BadRoads => 4,
-            Reply::TooSmall => 5,
-            Reply::Unopened => 6,
+            Reply::MapRecord => 1,
+            Reply::MapCounts => 2,
+            Reply::MapParts => 3,
+            Reply::MapRoads => 4,
+            Reply::TooFewWords => 5,
+            Reply::NotOpened => 6,
             Reply::OutOfRange => 7,
-            Reply::NoVan => 8,
-            Reply::AlreadyPresent => 9,
+            Reply::NoSuchVan => 8,
+            Reply::VanPresent => 9,
             Reply::NoRoad => 10,
             Reply::OffsetAboveWeight => 11,
-            Reply::Held => 12,
+            Reply::VanHeld => 12,
             Reply::NotHeldByDesk => 13,
             Reply::StampDiffers => 14,
-            Reply::CountUsedUp => 15,
+            Reply::CountFull => 15,
         }
     }
 
@@ -69,21 +69,21 @@ impl Reply {
     {
         match self {
             Reply::Accepted(x) => x,
-            Reply::BadRecord => 0,
-            Reply::BadCounts => 0,
-            Reply::BadParts => 0,
-            Reply::BadRoads => 0,
-            Reply::TooSmall => 0,
-            Reply::Unopened => 0,
+            Reply::MapRecord => 0,
+            Reply::MapCounts => 0,
+            Reply::MapParts => 0,
+            Reply::MapRoads => 0,
+            Reply::TooFewWords => 0,
+            Reply::NotOpened => 0,
             Reply::OutOfRange => 0,
-            Reply::NoVan => 0,
-            Reply::AlreadyPresent => 0,
+            Reply::NoSuchVan => 0,
+            Reply::VanPresent => 0,
             Reply::NoRoad => 0,
             Reply::OffsetAboveWeight => 0,
-            Reply::Held => 0,
+            Reply::VanHeld => 0,
             Reply::NotHeldByDesk => 0,
             Reply::StampDiffers => 0,
-            Reply::CountUsedUp => 0,
+            Reply::CountFull => 0,
         }
     }
 }

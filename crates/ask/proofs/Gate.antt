@@ -16,8 +16,8 @@ use Rattle.words.proofs.Lists.{sum-same, gather-length}
 use Rattle.roads.specs.Map.{Map}
 use Rattle.fleet.specs.State.{State}
 use Rattle.fleet.specs.Change.{accepted}
-use Rattle.fleet.specs.Question.{Listed, listedWords, nearest, questionInRange, questionRefusal, Replied, listInto, replyBy, reply}
-use Rattle.answers.specs.declared.Reply.the-variants.{Unopened, OutOfRange, TooSmall, Accepted}
+use Rattle.fleet.specs.Question.{Listed, listedWords, nearest, questionInRange, questionRefusal, Response, listInto, replyBy, reply}
+use Rattle.answers.specs.declared.Reply.the-variants.{NotOpened, OutOfRange, TooFewWords, Accepted}
 use Rattle.answers.specs.Answered.{answered}
 use Rattle.calls.specs.Head.{opened, usedOf, Shows}
 use Rattle.calls.specs.Outcome.{Asked}
@@ -48,7 +48,7 @@ module _ {m : Map} {s : State} {mem : List ℕ} (shows : Shows m s mem) where
   genuine-used used is = record { sound = shows .sound; good = shows .good; is = ap (λ (n : ℕ). take n mem) (is ∙ used-word shows) ∙ shows .words }
 
 module _ (mem : List ℕ) (x k : ℕ) (out : List ℕ) where
-  pub asked-unopened : opened mem ≡ false → Asked mem x k out (answered Unopened) out
+  pub asked-unopened : opened mem ≡ false → Asked mem x k out (answered NotOpened) out
   asked-unopened shut =
       record {
         screened = screened-unopened shut;
@@ -68,7 +68,7 @@ module _ (mem : List ℕ) (x k : ℕ) (out : List ℕ) where
         screened = screened-range there beyond;
         genuine = λ m s shows.
             let r = refused-reply m s 7 (ap (λ (b : Bool). 7 unless b then 5 unless leb (3 * k) (length out) then 0) (ap (λ (v : ℕ). questionInRange v x k) (sym (vertices-word shows)) ∙ beyond)) in
-            (ap (λ (p : Replied). p .answer) (sym r), ap (λ (p : Replied). p .words) (sym r));
+            (ap (λ (p : Response). p .answer) (sym r), ap (λ (p : Response). p .words) (sym r));
         refusal = λ n e. refl;
         size = refl;
       }
@@ -77,7 +77,7 @@ module _ (mem : List ℕ) (x k : ℕ) (out : List ℕ) where
     fits-in : (m : Map) (s : State) → Shows m s mem → questionInRange (m .vertices) x k ≡ true
     fits-in m s shows = ap (λ (v : ℕ). questionInRange v x k) (sym (vertices-word shows)) ∙ fits
 
-    pub asked-small : length out < 3 * k → Asked mem x k out (answered TooSmall) out
+    pub asked-small : length out < 3 * k → Asked mem x k out (answered TooFewWords) out
     asked-small small =
         record {
           screened = screened-neither there fits (λ six. omega arith, λ seven. omega arith);
@@ -85,7 +85,7 @@ module _ (mem : List ℕ) (x k : ℕ) (out : List ℕ) where
               let r = refused-reply m s 5
               (ap (λ (b : Bool). 7 unless b then 5 unless leb (3 * k) (length out) then 0) (fits-in m s shows)
               ∙ ap (λ (b : Bool). 5 unless b then 0) (lt-leb (3 * k) (length out) small)) in
-              (ap (λ (p : Replied). p .answer) (sym r), ap (λ (p : Replied). p .words) (sym r));
+              (ap (λ (p : Response). p .answer) (sym r), ap (λ (p : Response). p .words) (sym r));
           refusal = λ n e. refl;
           size = refl;
         }
@@ -128,6 +128,6 @@ module _ (mem : List ℕ) (x k : ℕ) (out : List ℕ) where
             let same = right m s (genuine-used shows used isUsed) (asked-few (m .vertices) x k inside .0) in
             let r = refused-reply m s 0
             (ap (λ (b : Bool). 7 unless b then 5 unless leb (3 * k) (length out) then 0) inside ∙ ap (λ (b : Bool). 5 unless b then 0) (le-leb (3 * k) (length out) enough)) in (
-              ap accepted (sym list-length) ∙ ap (λ (l : List Listed). listInto l out .answer) same ∙ ap (λ (p : Replied). p .answer) (sym r),
-              isOut ∙ ap (λ (l : List Listed). listInto l out .words) same ∙ ap (λ (p : Replied). p .words) (sym r),
+              ap accepted (sym list-length) ∙ ap (λ (l : List Listed). listInto l out .answer) same ∙ ap (λ (p : Response). p .answer) (sym r),
+              isOut ∙ ap (λ (l : List Listed). listInto l out .words) same ∙ ap (λ (p : Response). p .words) (sym r),
             )

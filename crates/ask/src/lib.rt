@@ -28,14 +28,14 @@ pub fn question(mem: &[u32], vertex: u32, k: u32, answer: &mut [u32]) -> Reply
     ensures { λ r. ⌜ Asked (now (mem .entry)) vertex k (now (answer .entry)) (answered r) (now (answer .exit)) ⌝ }
 {
     if !opened_head(mem) {
-        return Reply::Unopened;
+        return Reply::NotOpened;
     }
     if !in_range(word(mem, 2), vertex, k) {
         return Reply::OutOfRange;
     }
     let most = wide(k);
     if answer.len() < 3 * most {
-        return Reply::TooSmall;
+        return Reply::TooFewWords;
     }
     let used = wide(word(mem, 1));
     let inside = &mem[..used];

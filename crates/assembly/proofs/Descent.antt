@@ -10,8 +10,9 @@ use native.Mathlib.Decide.{decLt, ℕ-discrete}
 use native.Mathlib.Numerals.{add-one}
 use native.Mathlib.Omega.{arith}
 use lib.ListN.{getD}
-use Rattle.words.specs.Limits.{FAR}
-use Rattle.words.specs.Lists.{placeIn}
+use Rattle.words.specs.Limits.{mostVertices, FAR}
+use Rattle.words.specs.Lists.{placeIn, word}
+use Rattle.layout.specs.Layout.{head·parts, part·size, partWord}
 use Rattle.roads.specs.Map.{Map, partCount}
 use Rattle.roads.specs.Walk.{Walk, rest}
 use Rattle.roads.specs.Dist.{dist}
@@ -28,7 +29,7 @@ use Rattle.image.specs.Records.{rowVertex}
 use Rattle.inner_walks.specs.Inner.{Inner}
 use Rattle.inner_walks.proofs.Down.{entered-least}
 use Rattle.table_rows.specs.Flat.{Tried}
-use Rattle.assembly.specs.Laid.{Laid, Filled, entry}
+use Rattle.assembly.specs.Laid.{LaidForTables, Filled, tableEntry}
 use Rattle.assembly.specs.Lower.{Lower, Inside, Short}
 use Rattle.assembly.specs.Steps.{RowIn, placeBelow, RowBelow, Agreed, Tight, EnteredRow, Entered, Risen, Descended}
 use Rattle.assembly.proofs.Places.{row-is, row-real, laid-kept}
@@ -44,7 +45,7 @@ module _ {m : Map} {p i c size first table row : ℕ} (below : RowBelow m p i c 
   pub row-nowhere : c ≡ 0 → (mem : List ℕ) → EnteredRow m p i mem mem
   row-nowhere none mem = record { lower = lower-none m 0 mem; tight = λ d di. absurd (below .alone none d di); keeps = λ q k _ _ tight. tight }
 
-  pub row-entered : c ≢ 0 → {mem after : List ℕ} → Tried table size row mem after → Laid m mem → i < sizeOf m p → Inside m 0 mem → EnteredRow m p i mem after
+  pub row-entered : c ≢ 0 → {mem after : List ℕ} → Tried table size row mem after → LaidForTables m mem → i < sizeOf m p → Inside m 0 mem → EnteredRow m p i mem after
   row-entered some {mem} {after} T L hi I =
       let ri = below .row-in some in
       let hc = below .is-part some in
@@ -62,13 +63,13 @@ module _ {m : Map} {p i c size first table row : ℕ} (below : RowBelow m p i c 
 
 module _ (start : List ℕ) (p : ℕ) where
   abbrev pub EnteredTo : ℕ → List ℕ → Type 0
-  EnteredTo i mem = (m : Map) → Laid m start → p < partCount m → Inside m 0 start → Entered m p i start mem
+  EnteredTo i mem = (m : Map) → LaidForTables m start → p < partCount m → Inside m 0 start → Entered m p i start mem
 
   pub entered-first : EnteredTo 0 start
   entered-first m L hp I = record { lower = lower-none m 0 start; tight = λ i c h. absurd (omega arith) }
 
-  pub entered-turn : {size : ℕ} (before after : List ℕ) (i : ℕ) → i < size → size ≡ getD start (64 + 8 * p + 1) 0 → EnteredTo i before →
-      ((m : Map) → Laid m before → p < partCount m → i < sizeOf m p → Inside m 0 before → EnteredRow m p i before after) → EnteredTo (i + 1) after
+  pub entered-turn : {size : ℕ} (before after : List ℕ) (i : ℕ) → i < size → size ≡ partWord start p part·size → EnteredTo i before →
+      ((m : Map) → LaidForTables m before → p < partCount m → i < sizeOf m p → Inside m 0 before → EnteredRow m p i before after) → EnteredTo (i + 1) after
   entered-turn before after i hi size-is done row m L hp I =
       let A = done m L hp I in
       let K = laid-kept m start before (A .lower .sized) (A .lower .outside) L in
@@ -85,14 +86,14 @@ module _ (start : List ℕ) (p : ℕ) where
         ];
       }
 
-  pub entered-done : {size : ℕ} (mem : List ℕ) (i : ℕ) → i ≤ size → size ≤ i → size ≡ getD start (64 + 8 * p + 1) 0 → EnteredTo i mem →
-      (m : Map) → Laid m start → p < partCount m → Inside m 0 start → Entered m p (sizeOf m p) start mem
+  pub entered-done : {size : ℕ} (mem : List ℕ) (i : ℕ) → i ≤ size → size ≤ i → size ≡ partWord start p part·size → EnteredTo i mem →
+      (m : Map) → LaidForTables m start → p < partCount m → Inside m 0 start → Entered m p (sizeOf m p) start mem
   entered-done mem i within all size-is done m L hp I = subst (λ (n : ℕ). Entered m p n start mem) (omega (arith, L .part p hp .size)) (done m L hp I)
 
 -- ---- a part descended
 
 -- the table of a part is right over the whole map when its own turn comes
-own-short : {m : Map} {start mem : List ℕ} → Laid m start → (p : ℕ) → p < partCount m → Descended m p start mem → Short m p mem
+own-short : {m : Map} {start mem : List ℕ} → LaidForTables m start → (p : ℕ) → p < partCount m → Descended m p start mem → Short m p mem
 own-short L p hp D = D .short p hp (elim (ℕ-discrete p 0) [
   | yes root ↦ inl root
   | no real ↦ inr (L .sound .part p hp .parent (omega (arith, real)))
@@ -101,7 +102,7 @@ own-short L p hp D = D .short p hp (elim (ℕ-discrete p 0) [
 short-lower : {m : Map} {before after : List ℕ} → Lower m 0 before after → (q : ℕ) → q < partCount m → Short m q before → Short m q after
 short-lower f q hq h i j w hi hj walk = omega (arith, f .less q i j (omega arith) hq hi hj, h i j w hi hj walk)
 
-module _ (m : Map) (mem one two : List ℕ) (L : Laid m mem) (p : ℕ) (hp : p < partCount m) (S : Short m p mem) (I : Inside m 0 two)
+module _ (m : Map) (mem one two : List ℕ) (L : LaidForTables m mem) (p : ℕ) (hp : p < partCount m) (S : Short m p mem) (I : Inside m 0 two)
     (A : Agreed m 0 p (sizeOf m p) mem one) (E : Entered m p (sizeOf m p) one two) (c : ℕ) (hc : List·Memᴰ c (children m p)) where
   later : (c < partCount m) × (p < c)
   later = child-later m (L .sound) p c hc
@@ -142,14 +143,14 @@ module _ (m : Map) (mem one two : List ℕ) (L : Laid m mem) (p : ℕ) (hp : p <
             I .inner c (rowOfVertex m c a) (rowOfVertex m c b) w (omega arith) (later .0) (ra .0) (rb .0) (rw (ra .1, rb .1) walk);
         between = between;
         tried = λ a g b ha bg hb.
-            subst (λ (k : ℕ). entry m two c (rowOfVertex m c a) (rowOfVertex m c b) ≤ entry m two c (rowOfVertex m c a) k + entry m two c k (rowOfVertex m c b)) (gate-place g bg)
+            subst (λ (k : ℕ). tableEntry m two c (rowOfVertex m c a) (rowOfVertex m c b) ≤ tableEntry m two c (rowOfVertex m c a) k + tableEntry m two c k (rowOfVertex m c b)) (gate-place g bg)
             (E .tight (rowOfVertex m p g) c (gate-row g bg .0) (gate-in g bg) (rowOfVertex m c a) (rowOfVertex m c b) (vertex-row m c a ha .0) (vertex-row m c b hb .0));
       }) (rowVertex m c i) (rowVertex m c j) w (row-is m c i hi) (row-is m c j hj) walk)
 
 pub descended-step : (mem one two : List ℕ) (p : ℕ) →
-    ((m : Map) (low : ℕ) → Laid m mem → low ≤ p → p < partCount m → Agreed m low p (sizeOf m p) mem one) →
-    ((m : Map) → Laid m one → p < partCount m → Inside m 0 one → Entered m p (sizeOf m p) one two) →
-    (m : Map) (start : List ℕ) → Laid m start → p < partCount m → Descended m p start mem → Descended m (suc p) start two
+    ((m : Map) (low : ℕ) → LaidForTables m mem → low ≤ p → p < partCount m → Agreed m low p (sizeOf m p) mem one) →
+    ((m : Map) → LaidForTables m one → p < partCount m → Inside m 0 one → Entered m p (sizeOf m p) one two) →
+    (m : Map) (start : List ℕ) → LaidForTables m start → p < partCount m → Descended m p start mem → Descended m (suc p) start two
 descended-step mem one two p agree enter m start L hp D =
     let K = laid-kept m start mem (D .risen .sized) (D .risen .outside) L in
     let A = agree m 0 K (omega arith) hp in
@@ -177,18 +178,18 @@ descended-step mem one two p agree enter m start L hp D =
 
 module _ (mem : List ℕ) where
   abbrev pub DescendedTo : ℕ → List ℕ → Type 0
-  DescendedTo p now = (m : Map) (start : List ℕ) → Laid m start → Descended m 0 start mem → (p ≤ partCount m → Descended m p start now)
+  DescendedTo p now = (m : Map) (start : List ℕ) → LaidForTables m start → Descended m 0 start mem → (p ≤ partCount m → Descended m p start now)
 
   pub descended-first : DescendedTo 0 mem
   descended-first m start L D _ = D
 
   pub descended-turn : (before after : List ℕ) (p : ℕ) → DescendedTo p before →
-      ((m : Map) (start : List ℕ) → Laid m start → p < partCount m → Descended m p start before → Descended m (suc p) start after) → DescendedTo (p + 1) after
+      ((m : Map) (start : List ℕ) → LaidForTables m start → p < partCount m → Descended m p start before → Descended m (suc p) start after) → DescendedTo (p + 1) after
   descended-turn before after p done step m start L D within =
       subst⁻¹ (λ (n : ℕ). Descended m n start after) (add-one p) (step m start L (omega arith) (done m start L D (omega arith)))
 
-  pub descended-done : {count : ℕ} (now : List ℕ) (p : ℕ) → p ≤ count → count ≤ p → count ≡ getD mem 4 0 → DescendedTo p now →
-      (m : Map) (start : List ℕ) → Laid m start → Descended m 0 start mem → Descended m (partCount m) start now
+  pub descended-done : {count : ℕ} (now : List ℕ) (p : ℕ) → p ≤ count → count ≤ p → count ≡ word mem head·parts → DescendedTo p now →
+      (m : Map) (start : List ℕ) → LaidForTables m start → Descended m 0 start mem → Descended m (partCount m) start now
   descended-done now p within all count-is done m start L D =
       let K = laid-kept m start mem (D .risen .sized) (D .risen .outside) L in
       subst (λ (n : ℕ). Descended m n start now) (omega (arith, K .parts)) (done m start L D (omega (arith, K .parts)))
@@ -196,7 +197,7 @@ module _ (mem : List ℕ) where
 -- ---- the beginning and the end
 
 -- inside the root is everywhere
-pub descent-begins : (m : Map) (start mem : List ℕ) → Laid m start → Risen m 0 start mem → Descended m 0 start mem
+pub descent-begins : (m : Map) (start mem : List ℕ) → LaidForTables m start → Risen m 0 start mem → Descended m 0 start mem
 descent-begins m start mem L R = record {
   risen = R;
   short = λ q hq when i j w hi hj walk. ⊎-elim
@@ -207,14 +208,14 @@ descent-begins m start mem L R = record {
       when;
 }
 
-pub all-filled : (start mem : List ℕ) → ((x : ℕ) → getD mem x 0 < 4294967296) → (m : Map) → Laid m start → Descended m (partCount m) start mem → Filled m start mem
+pub all-filled : (start mem : List ℕ) → ((x : ℕ) → getD mem x 0 < 4294967296) → (m : Map) → LaidForTables m start → Descended m (partCount m) start mem → Filled m start mem
 all-filled start mem small m L D = record {
   sized = D .risen .sized;
   outside = D .risen .outside;
   distance = λ p i j hp hi hj. le-antisymm (above p i j hp hi hj) (D .risen .inside .honest p i j (omega arith) hp hi hj);
 }
   where
-    above : (p i j : ℕ) → p < partCount m → i < sizeOf m p → j < sizeOf m p → entry m mem p i j ≤ dist m (rowVertex m p i) (rowVertex m p j)
+    above : (p i j : ℕ) → p < partCount m → i < sizeOf m p → j < sizeOf m p → tableEntry m mem p i j ≤ dist m (rowVertex m p i) (rowVertex m p j)
     above p i j hp hi hj = elim (ℕ-discrete (dist m (rowVertex m p i) (rowVertex m p j)) FAR) [
       | yes far ↦ omega (arith, far, small (tableOf m p + (sizeOf m p * i + j)))
       | no near ↦
@@ -226,6 +227,6 @@ all-filled start mem small m L D = record {
     ]
 
 -- as the code has it
-pub filled : (start mid mem : List ℕ) (wide : ℕ) → ((x : ℕ) → getD mem x 0 < 4294967296) → 4096 ≤ wide → ((m : Map) → Laid m start → 4096 ≤ wide → Risen m 0 start mid) →
-    ((m : Map) (first : List ℕ) → Laid m first → Descended m 0 first mid → Descended m (partCount m) first mem) → (m : Map) → Laid m start → Filled m start mem
+pub filled : (start mid mem : List ℕ) (wide : ℕ) → ((x : ℕ) → getD mem x 0 < 4294967296) → mostVertices ≤ wide → ((m : Map) → LaidForTables m start → mostVertices ≤ wide → Risen m 0 start mid) →
+    ((m : Map) (first : List ℕ) → LaidForTables m first → Descended m 0 first mid → Descended m (partCount m) first mem) → (m : Map) → LaidForTables m start → Filled m start mem
 filled start mid mem wide small few rise descend m L = all-filled start mem small m L (descend m start L (descent-begins m start mid L (rise m L few)))

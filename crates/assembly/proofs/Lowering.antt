@@ -8,14 +8,15 @@ use native.Mathlib.Decide.{ℕ-discrete}
 use native.Mathlib.Omega.{arith}
 use lib.ListN.{length, getD, length-set}
 use lib.Seq.{getD-set-same, getD-set-other}
+use Rattle.cells.specs.Lowered.{lowered}
 use Rattle.roads.specs.Map.{Map, partCount}
 use Rattle.roads.specs.Dist.{dist}
 use Rattle.parts.specs.Size.{sizeOf, need}
 use Rattle.image.specs.Places.{tableOf}
 use Rattle.image.specs.Records.{rowVertex}
 use Rattle.image.proofs.Records.{rows-end}
-use Rattle.assembly.specs.Laid.{Laid, entry}
-use Rattle.assembly.specs.Lower.{lowered, Honest, Lower, Inside}
+use Rattle.assembly.specs.Laid.{LaidForTables, tableEntry}
+use Rattle.assembly.specs.Lower.{Honest, Lower, Inside}
 use Rattle.assembly.proofs.Places.{table-from, table-to, entry-to, one-word}
 
 -- ---- nothing done, and one thing after the other
@@ -54,7 +55,7 @@ module _ (mem : List ℕ) (a x : ℕ) where
   ]
 
 -- every word of a table is within the memory
-pub entry-fits : (m : Map) (mem : List ℕ) → Laid m mem → (q i j : ℕ) → q < partCount m → i < sizeOf m q → j < sizeOf m q →
+pub entry-fits : (m : Map) (mem : List ℕ) → LaidForTables m mem → (q i j : ℕ) → q < partCount m → i < sizeOf m q → j < sizeOf m q →
     tableOf m q + (sizeOf m q * i + j) < length mem
 entry-fits m mem L q i j hq hi hj = omega (arith, L .fits, rows-end m, table-to m q hq, entry-to m q i j hi hj)
 
@@ -62,7 +63,7 @@ module _ (m : Map) (mem : List ℕ) (fits : need m ≤ length mem) (q i j : ℕ)
   within : tableOf m q + (sizeOf m q * i + j) < length mem
   within = omega (arith, fits, rows-end m, table-to m q hq, entry-to m q i j hi hj)
 
-  pub lower-one-at : entry m (lowered mem (tableOf m q + (sizeOf m q * i + j)) x) q i j ≤ x
+  pub lower-one-at : tableEntry m (lowered mem (tableOf m q + (sizeOf m q * i + j)) x) q i j ≤ x
   lower-one-at = omega (arith, lowered-at mem (tableOf m q + (sizeOf m q * i + j)) x within)
 
   -- where x is no less than the distance

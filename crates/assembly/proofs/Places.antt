@@ -10,6 +10,7 @@ use lib.ListN.{length}
 use Rattle.words.specs.Lists.{word}
 use Rattle.words.proofs.Sums.{record-within, sum-below}
 use Rattle.words.proofs.Places.{entry-in}
+use Rattle.layout.specs.Layout.{part·words, part·size, part·rows, part·table, vertex·words, vertex·roads, road·words, road·from, road·to, road·weight, row·words, row·own, row·below, partAt}
 use Rattle.roads.specs.Map.{Map, partCount, roadCount}
 use Rattle.parts.specs.Size.{rowVertices, sizeOf, tableWordsBelow, tableWords}
 use Rattle.parts.proofs.Rows.{row-vertex}
@@ -17,7 +18,7 @@ use Rattle.image.specs.Places.{verticesAt, roadsAt, tablesAt, rowsAt, tableOf, 
 use Rattle.image.specs.Records.{rowVertex}
 use Rattle.image.proofs.Records.{vertices-start, roads-start, vans-start, tables-start, rows-start}
 use Rattle.table_rows.proofs.Rows.{places-differ}
-use Rattle.assembly.specs.Laid.{Laid, Outside}
+use Rattle.assembly.specs.Laid.{LaidForTables, OutsideTables}
 
 module _ (m : Map) where
   -- ---- tables
@@ -64,19 +65,19 @@ module _ (m : Map) where
 
   -- ---- outside the tables
 
-  pub head-outside : (x : ℕ) → x < 64 → Outside m x
+  pub head-outside : (x : ℕ) → x < 64 → OutsideTables m x
   head-outside x h = inl (omega (arith, vertices-start m, roads-start m, vans-start m, tables-start m))
 
-  pub part-outside : (p w : ℕ) → p < partCount m → w < 8 → Outside m (64 + 8 * p + w)
+  pub part-outside : (p w : ℕ) → p < partCount m → w < part·words → OutsideTables m (partAt p + w)
   part-outside p w hp hw = inl (omega (arith, roads-start m, vans-start m, tables-start m))
 
-  pub vertex-outside : (v w : ℕ) → v < m .vertices → w < 8 → Outside m (verticesAt m + 8 * v + w)
+  pub vertex-outside : (v w : ℕ) → v < m .vertices → w < vertex·words → OutsideTables m (verticesAt m + vertex·words * v + w)
   vertex-outside v w hv hw = inl (omega (arith, vertices-start m, roads-start m, vans-start m, tables-start m))
 
-  pub road-outside : (r w : ℕ) → r < roadCount m → w < 4 → Outside m (roadsAt m + 4 * r + w)
+  pub road-outside : (r w : ℕ) → r < roadCount m → w < road·words → OutsideTables m (roadsAt m + road·words * r + w)
   road-outside r w hr hw = inl (omega (arith, vans-start m, tables-start m))
 
-  pub row-outside : (p x : ℕ) → Outside m (firstRowOf m p + x)
+  pub row-outside : (p x : ℕ) → OutsideTables m (firstRowOf m p + x)
   unfolding firstRowOf
   row-outside p x = inr (omega arith)
 
@@ -90,8 +91,8 @@ module _ (m : Map) where
   row-real p i h = row-vertex m p (rowVertex m p i) (row-is p i h)
 
 -- What filling reads stays where no word outside the tables changes.
-module _ (m : Map) (before after : List ℕ) (sized : length after ≡ length before) (same : (x : ℕ) → Outside m x → word after x ≡ word before x) where
-  pub laid-kept : Laid m before → Laid m after
+module _ (m : Map) (before after : List ℕ) (sized : length after ≡ length before) (same : (x : ℕ) → OutsideTables m x → word after x ≡ word before x) where
+  pub laid-kept : LaidForTables m before → LaidForTables m after
   laid-kept L = record {
     sound = L .sound;
     fits = omega (arith, L .fits);
@@ -99,24 +100,24 @@ module _ (m : Map) (before after : List ℕ) (sized : length after ≡ length be
     roads = same 3 (head-outside m 3 (omega arith)) ∙ L .roads;
     parts = same 4 (head-outside m 4 (omega arith)) ∙ L .parts;
     part = λ p hp. record {
-      size = same (64 + 8 * p + 1) (part-outside m p 1 hp (omega arith)) ∙ L .part p hp .size;
-      first-row = same (64 + 8 * p + 2) (part-outside m p 2 hp (omega arith)) ∙ L .part p hp .first-row;
-      table = same (64 + 8 * p + 3) (part-outside m p 3 hp (omega arith)) ∙ L .part p hp .table;
+      size = same (partAt p + part·size) (part-outside m p part·size hp (omega arith)) ∙ L .part p hp .size;
+      first-row = same (partAt p + part·rows) (part-outside m p part·rows hp (omega arith)) ∙ L .part p hp .first-row;
+      table = same (partAt p + part·table) (part-outside m p part·table hp (omega arith)) ∙ L .part p hp .table;
     };
-    first-road = λ v hv. same (verticesAt m + 8 * v + 2) (vertex-outside m v 2 hv (omega arith)) ∙ L .first-road v hv;
+    first-road = λ v hv. same (verticesAt m + vertex·words * v + vertex·roads) (vertex-outside m v vertex·roads hv (omega arith)) ∙ L .first-road v hv;
     road = λ r hr. record {
-      from = ap (word after) (plus-none (roadsAt m + 4 * r)) ∙ same (roadsAt m + 4 * r + 0) (road-outside m r 0 hr (omega arith)) ∙ ap (word before) (sym (plus-none (roadsAt m + 4 * r))) ∙ L .road r hr .from;
-      to = same (roadsAt m + 4 * r + 1) (road-outside m r 1 hr (omega arith)) ∙ L .road r hr .to;
-      weight = same (roadsAt m + 4 * r + 2) (road-outside m r 2 hr (omega arith)) ∙ L .road r hr .weight;
+      from = ap (word after) (plus-none (roadsAt m + road·words * r)) ∙ same (roadsAt m + road·words * r + road·from) (road-outside m r road·from hr (omega arith)) ∙ ap (word before) (sym (plus-none (roadsAt m + road·words * r))) ∙ L .road r hr .from;
+      to = same (roadsAt m + road·words * r + road·to) (road-outside m r road·to hr (omega arith)) ∙ L .road r hr .to;
+      weight = same (roadsAt m + road·words * r + road·weight) (road-outside m r road·weight hr (omega arith)) ∙ L .road r hr .weight;
     };
     row = λ p i hp hi. record {
-      mark = moved (firstRowOf m p) (4 * i) 2 (row-outside m p (4 * i + 2)) ∙ L .row p i hp hi .mark;
-      below = moved (firstRowOf m p) (4 * i) 3 (row-outside m p (4 * i + 3)) ∙ L .row p i hp hi .below;
+      mark = moved (firstRowOf m p) (row·words * i) row·own (row-outside m p (row·words * i + row·own)) ∙ L .row p i hp hi .mark;
+      below = moved (firstRowOf m p) (row·words * i) row·below (row-outside m p (row·words * i + row·below)) ∙ L .row p i hp hi .below;
     };
   }
     where
       plus-none : (x : ℕ) → x ≡ x + 0
       plus-none x = omega arith
 
-      moved : (a b w : ℕ) → Outside m (a + (b + w)) → word after (a + b + w) ≡ word before (a + b + w)
-      moved a b w out = same (a + b + w) (subst (Outside m) (omega arith) out)
+      moved : (a b w : ℕ) → OutsideTables m (a + (b + w)) → word after (a + b + w) ≡ word before (a + b + w)
+      moved a b w out = same (a + b + w) (subst (OutsideTables m) (omega arith) out)

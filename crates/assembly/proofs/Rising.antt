@@ -10,9 +10,11 @@ use native.Mathlib.Decide.{ℕ-discrete}
 use native.Mathlib.Omega.{arith}
 use lib.ListN.{length, getD}
 use borrow.Author.Tests.{eq-eqb, ne-eqb}
+use Rattle.words.specs.Limits.{mostVertices, mostBorders}
 use Rattle.words.specs.Lists.{word, placeIn}
 use Rattle.words.proofs.Lists.{place-in}
 use Rattle.words.proofs.Places.{place-of-entry, numbered}
+use Rattle.layout.specs.Layout.{head·parts, part·size, part·table, partWord}
 use Rattle.roads.specs.Map.{Road, Map, partCount, noRoad}
 use Rattle.roads.specs.Dist.{dist}
 use Rattle.roads.proofs.Inner.{inner-start, inner-end}
@@ -27,9 +29,9 @@ use Rattle.image.proofs.Records.{rows-end}
 use Rattle.inner_walks.specs.Inner.{Inner}
 use Rattle.inner_walks.proofs.Up.{closed-least}
 use Rattle.table_rows.specs.Flat.{blank, Becomes, Blanked, Tried}
-use Rattle.assembly.specs.Laid.{Laid, entry, Outside}
+use Rattle.assembly.specs.Laid.{LaidForTables, tableEntry, OutsideTables}
 use Rattle.assembly.specs.Lower.{Honest, Lower, Inside}
-use Rattle.assembly.specs.Steps.{RowIn, placeBelow, Agreed, Noted, Apart, Roads, Tight, AtHome, Closed, HaltTried, Risen}
+use Rattle.assembly.specs.Steps.{RowIn, placeBelow, Agreed, Noted, NotTogether, Roads, Tight, AtHome, Closed, HaltTried, Risen}
 use Rattle.assembly.proofs.Places.{table-from, tables-apart, table-to, row-is, row-real, laid-kept}
 use Rattle.assembly.proofs.Lowering.{lower-none, lower-then}
 use Rattle.assembly.proofs.Trying.{tried-lower, tried-tight, tried-keeps}
@@ -52,21 +54,21 @@ module _ (m : Map) (p : ℕ) where
 
   -- a word of the table of p, by the vertices of its row and its column
   abbrev pub byVertices : List ℕ → ℕ → ℕ → ℕ
-  byVertices mem a b = entry m mem p (rowOfVertex a) (rowOfVertex b)
+  byVertices mem a b = tableEntry m mem p (rowOfVertex a) (rowOfVertex b)
 
-  pub by-rows : (mem : List ℕ) (i j : ℕ) {w : ℕ} → i < sizeOf m p → j < sizeOf m p → byVertices mem (rowVertex m p i) (rowVertex m p j) ≤ w → entry m mem p i j ≤ w
+  pub by-rows : (mem : List ℕ) (i j : ℕ) {w : ℕ} → i < sizeOf m p → j < sizeOf m p → byVertices mem (rowVertex m p i) (rowVertex m p j) ≤ w → tableEntry m mem p i j ≤ w
   by-rows mem i j hi hj least = rw (row-again i hi, row-again j hj) at least
 
 -- ---- every row vertex tried
 
 module _ (start marked : List ℕ) (p : ℕ) where
   abbrev pub ClosedTo : ℕ → List ℕ → Type 0
-  ClosedTo k mem = (m : Map) → Laid m start → p < partCount m → AtHome m p start → Closed m p k marked start mem
+  ClosedTo k mem = (m : Map) → LaidForTables m start → p < partCount m → AtHome m p start → Closed m p k marked start mem
 
   pub closed-first : ClosedTo 0 start
   closed-first m L hp home = record { lower = lower-none m p start; tight = λ k h. absurd (omega arith) }
 
-  pub closed-turn : {size table : ℕ} (before after : List ℕ) (k : ℕ) → k < size → size ≡ getD start (64 + 8 * p + 1) 0 → table ≡ getD start (64 + 8 * p + 3) 0 →
+  pub closed-turn : {size table : ℕ} (before after : List ℕ) (k : ℕ) → k < size → size ≡ partWord start p part·size → table ≡ partWord start p part·table →
       ClosedTo k before → HaltTried table size k marked before after → ClosedTo (k + 1) after
   closed-turn {size} {table} before after k hk size-is table-is done T m L hp home = elim (ℕ-discrete (word marked k) 1) [
     | yes halt ↦
@@ -95,14 +97,14 @@ module _ (start marked : List ℕ) (p : ℕ) where
       A : Closed m p k marked start before
       A = done m L hp home
 
-      K : Laid m before
+      K : LaidForTables m before
       K = laid-kept m start before (A .lower .sized) (A .lower .outside) L
 
       fits : k < sizeOf m p
       fits = omega (arith, L .part p hp .size)
 
-  pub closed-done : {size : ℕ} (mem : List ℕ) (k : ℕ) → k ≤ size → size ≤ k → size ≡ getD start (64 + 8 * p + 1) 0 → ClosedTo k mem →
-      (m : Map) → Laid m start → p < partCount m → AtHome m p start → Closed m p (sizeOf m p) marked start mem
+  pub closed-done : {size : ℕ} (mem : List ℕ) (k : ℕ) → k ≤ size → size ≤ k → size ≡ partWord start p part·size → ClosedTo k mem →
+      (m : Map) → LaidForTables m start → p < partCount m → AtHome m p start → Closed m p (sizeOf m p) marked start mem
   closed-done mem k within all size-is done m L hp home = subst (λ (n : ℕ). Closed m p n marked start mem) (omega (arith, L .part p hp .size)) (done m L hp home)
 
 -- one row, as its mark is read
@@ -115,21 +117,21 @@ module _ (marked : List ℕ) {k a w : ℕ} (table size : ℕ) (at : a ≡ k) (re
 
 -- ---- a table blanked
 
-module _ (m : Map) (before after : List ℕ) (L : Laid m before) (p : ℕ) (hp : p < partCount m) (B : Blanked (tableOf m p) (sizeOf m p) before after) where
+module _ (m : Map) (before after : List ℕ) (L : LaidForTables m before) (p : ℕ) (hp : p < partCount m) (B : Blanked (tableOf m p) (sizeOf m p) before after) where
   made : Becomes (tableOf m p) (sizeOf m p) (λ T. blank) before after
   made = B .blanked (few-rows m (L .sound) p hp) (omega (arith, L .fits, rows-end m, table-to m p hp))
 
-  pub blank-outside : (x : ℕ) → Outside m x → word after x ≡ word before x
+  pub blank-outside : (x : ℕ) → OutsideTables m x → word after x ≡ word before x
   blank-outside x out = made .outside x (⊎-elim (λ below. inl (omega (arith, table-from m p))) (λ above. inr (omega (arith, table-to m p hp))) out)
 
   pub blank-home : AtHome m p after
   unfolding blank
   blank-home i hi = omega (arith, rw (eq-eqb i i refl) at (made .each i i hi hi))
 
-  blank-later : (q i j : ℕ) → p < q → i < sizeOf m q → j < sizeOf m q → entry m after q i j ≡ entry m before q i j
+  blank-later : (q i j : ℕ) → p < q → i < sizeOf m q → j < sizeOf m q → tableEntry m after q i j ≡ tableEntry m before q i j
   blank-later q i j less hi hj = made .outside (tableOf m q + (sizeOf m q * i + j)) (inr (omega (arith, tables-apart m p q less)))
 
-  blank-own : (i j : ℕ) → i < sizeOf m p → j < sizeOf m p → dist m (rowVertex m p i) (rowVertex m p j) ≤ entry m after p i j
+  blank-own : (i j : ℕ) → i < sizeOf m p → j < sizeOf m p → dist m (rowVertex m p i) (rowVertex m p j) ≤ tableEntry m after p i j
   unfolding blank
   blank-own i j hi hj = elim (ℕ-discrete i j) [
     | yes same ↦
@@ -140,24 +142,24 @@ module _ (m : Map) (before after : List ℕ) (L : Laid m before) (p : ℕ) (hp :
 
   pub blank-honest : Inside m (suc p) before → Honest m p after
   blank-honest I q i j low hq hi hj = elim (ℕ-discrete q p) [
-    | yes same ↦ subst⁻¹ (λ (x : ℕ). i < sizeOf m x → j < sizeOf m x → dist m (rowVertex m x i) (rowVertex m x j) ≤ entry m after x i j) same (blank-own i j) hi hj
+    | yes same ↦ subst⁻¹ (λ (x : ℕ). i < sizeOf m x → j < sizeOf m x → dist m (rowVertex m x i) (rowVertex m x j) ≤ tableEntry m after x i j) same (blank-own i j) hi hj
     | no other ↦ omega (arith, blank-later q i j (omega (arith, other)) hi hj, I .honest q i j (omega (arith, other)) hq hi hj)
   ]
 
-  pub blank-inner : Inside m (suc p) before → (q i j w : ℕ) → p < q → q < partCount m → i < sizeOf m q → j < sizeOf m q → Inner m q (rowVertex m q i) (rowVertex m q j) w → entry m after q i j ≤ w
+  pub blank-inner : Inside m (suc p) before → (q i j w : ℕ) → p < q → q < partCount m → i < sizeOf m q → j < sizeOf m q → Inner m q (rowVertex m q i) (rowVertex m q j) w → tableEntry m after q i j ≤ w
   blank-inner I q i j w less hq hi hj walk = omega (arith, blank-later q i j less hi hj, I .inner q i j w less hq hi hj walk)
 
 -- ---- the whole step
 
-module _ (m : Map) (mem one two three four : List ℕ) (L : Laid m mem) (p : ℕ) (hp : p < partCount m) (I : Inside m (suc p) mem)
+module _ (m : Map) (mem one two three four : List ℕ) (L : LaidForTables m mem) (p : ℕ) (hp : p < partCount m) (I : Inside m (suc p) mem)
     (B : Blanked (tableOf m p) (sizeOf m p) mem one) (marks marked : List ℕ) (R : Roads m p (sizeOf m p) one two marks marked) (A : Agreed m p p (sizeOf m p) two three) (C : Closed m p (sizeOf m p) marked three four) where
   later : Lower m p one four
   later = lower-then (R .lower) (lower-then (A .lower) (C .lower))
 
   -- a road between two row vertices
   road-taken : (r : Road) → List·Memᴰ r (m .roads) → List·Memᴰ (r .from) (rowVertices m p) → List·Memᴰ (r .to) (rowVertices m p)
-      → (entry m two p (rowOfVertex m p (r .from)) (rowOfVertex m p (r .to)) ≤ r .weight)
-      × (Apart m p (rowOfVertex m p (r .from)) (rowOfVertex m p (r .to)) → (word marked (rowOfVertex m p (r .from)) ≡ 1) × (word marked (rowOfVertex m p (r .to)) ≡ 1))
+      → (tableEntry m two p (rowOfVertex m p (r .from)) (rowOfVertex m p (r .to)) ≤ r .weight)
+      × (NotTogether m p (rowOfVertex m p (r .from)) (rowOfVertex m p (r .to)) → (word marked (rowOfVertex m p (r .from)) ≡ 1) × (word marked (rowOfVertex m p (r .to)) ≡ 1))
   road-taken r h hf ht =
       let n = numbered noRoad (m .roads) r h in
       let f = vertex-row m p (r .from) hf in
@@ -198,7 +200,7 @@ module _ (m : Map) (mem one two three four : List ℕ) (L : Laid m mem) (p : ℕ
         C .lower .less p i j (omega arith) hp (ra .0) (rb .0),
       )
 
-  own-least : (i j w : ℕ) → i < sizeOf m p → j < sizeOf m p → Inner m p (rowVertex m p i) (rowVertex m p j) w → entry m four p i j ≤ w
+  own-least : (i j w : ℕ) → i < sizeOf m p → j < sizeOf m p → Inner m p (rowVertex m p i) (rowVertex m p j) w → tableEntry m four p i j ≤ w
   own-least i j w hi hj walk =
       by-rows m p four i j hi hj
       (closed-least m (sound-net m (L .sound)) (sound-tree m (L .sound)) p (byVertices m p four) (record {
@@ -222,19 +224,19 @@ module _ (m : Map) (mem one two three four : List ℕ) (L : Laid m mem) (p : ℕ
     inside = record {
       honest = later .honest (blank-honest m mem one L p hp B I);
       inner = λ q i j w low hq hi hj walk. elim (ℕ-discrete q p) [
-        | yes same ↦ subst⁻¹ (λ (x : ℕ). i < sizeOf m x → j < sizeOf m x → Inner m x (rowVertex m x i) (rowVertex m x j) w → entry m four x i j ≤ w) same (own-least i j w) hi hj walk
+        | yes same ↦ subst⁻¹ (λ (x : ℕ). i < sizeOf m x → j < sizeOf m x → Inner m x (rowVertex m x i) (rowVertex m x j) w → tableEntry m four x i j ≤ w) same (own-least i j w) hi hj walk
         | no other ↦ omega (arith, later .less q i j low hq hi hj, blank-inner m mem one L p hp B I q i j w (omega (arith, other)) hq hi hj walk)
       ];
     };
   }
 
 -- as the code has it
-pub risen-step : (mem one two three four : List ℕ) (p : ℕ) {size table wide : ℕ} {place : List ℕ} (marks marked : List ℕ) → 128 ≤ length marks → size ≡ getD mem (64 + 8 * p + 1) 0 → table ≡ getD mem (64 + 8 * p + 3) 0 →
-    Blanked table size mem one → ((m : Map) → Laid m one → p < partCount m → 4096 ≤ wide → Noted m p (sizeOf m p) place) →
-    ((m : Map) → Laid m one → p < partCount m → Noted m p (sizeOf m p) place → 128 ≤ length marks → Roads m p (sizeOf m p) one two marks marked) →
-    ((m : Map) (low : ℕ) → Laid m two → low ≤ p → p < partCount m → Agreed m low p (sizeOf m p) two three) →
-    ((m : Map) → Laid m three → p < partCount m → AtHome m p three → Closed m p (sizeOf m p) marked three four) →
-    (m : Map) → Laid m mem → p < partCount m → 4096 ≤ wide → Inside m (suc p) mem → Risen m p mem four
+pub risen-step : (mem one two three four : List ℕ) (p : ℕ) {size table wide : ℕ} {place : List ℕ} (marks marked : List ℕ) → mostBorders ≤ length marks → size ≡ partWord mem p part·size → table ≡ partWord mem p part·table →
+    Blanked table size mem one → ((m : Map) → LaidForTables m one → p < partCount m → mostVertices ≤ wide → Noted m p (sizeOf m p) place) →
+    ((m : Map) → LaidForTables m one → p < partCount m → Noted m p (sizeOf m p) place → mostBorders ≤ length marks → Roads m p (sizeOf m p) one two marks marked) →
+    ((m : Map) (low : ℕ) → LaidForTables m two → low ≤ p → p < partCount m → Agreed m low p (sizeOf m p) two three) →
+    ((m : Map) → LaidForTables m three → p < partCount m → AtHome m p three → Closed m p (sizeOf m p) marked three four) →
+    (m : Map) → LaidForTables m mem → p < partCount m → mostVertices ≤ wide → Inside m (suc p) mem → Risen m p mem four
 risen-step mem one two three four p marks marked long size-is table-is B note roads agree close m L hp few I =
     let B′ : Blanked (tableOf m p) (sizeOf m p) mem one = rw (size-is ∙ L .part p hp .size, table-is ∙ L .part p hp .table) at B in
     let L1 = laid-kept m mem one (B .sized) (blank-outside m mem one L p hp B′) L in
@@ -249,22 +251,22 @@ risen-step mem one two three four p marks marked long size-is table-is B note ro
 
 module _ (start : List ℕ) (wide : ℕ) where
   abbrev pub RisenTo : ℕ → List ℕ → Type 0
-  RisenTo p mem = (m : Map) → Laid m start → 4096 ≤ wide → Risen m p start mem
+  RisenTo p mem = (m : Map) → LaidForTables m start → mostVertices ≤ wide → Risen m p start mem
 
-  pub risen-first : {count : ℕ} → count ≡ getD start 4 0 → RisenTo count start
+  pub risen-first : {count : ℕ} → count ≡ word start head·parts → RisenTo count start
   risen-first count-is m L few = record {
     sized = refl;
     outside = λ x out. refl;
     inside = record { honest = λ q i j low hq. absurd (omega (arith, L .parts)); inner = λ q i j w low hq. absurd (omega (arith, L .parts)) };
   }
 
-  pub risen-turn : {count q : ℕ} (before after : List ℕ) (p : ℕ) → q ≤ count → count ≡ getD start 4 0 → suc p ≡ q → RisenTo q before →
-      ((m : Map) → Laid m before → p < partCount m → 4096 ≤ wide → Inside m (suc p) before → Risen m p before after) → RisenTo p after
+  pub risen-turn : {count q : ℕ} (before after : List ℕ) (p : ℕ) → q ≤ count → count ≡ word start head·parts → suc p ≡ q → RisenTo q before →
+      ((m : Map) → LaidForTables m before → p < partCount m → mostVertices ≤ wide → Inside m (suc p) before → Risen m p before after) → RisenTo p after
   risen-turn before after p within count-is next done step m L few =
       let A = done m L few in
       let K = laid-kept m start before (A .sized) (A .outside) L in
       let S = step m K (omega (arith, L .parts)) few (subst⁻¹ (λ (x : ℕ). Inside m x before) next (A .inside)) in
       record { sized = S .sized ∙ A .sized; outside = λ x out. S .outside x out ∙ A .outside x out; inside = S .inside }
 
-  pub risen-done : (mem : List ℕ) (p : ℕ) → p ≤ 0 → RisenTo p mem → (m : Map) → Laid m start → 4096 ≤ wide → Risen m 0 start mem
+  pub risen-done : (mem : List ℕ) (p : ℕ) → p ≤ 0 → RisenTo p mem → (m : Map) → LaidForTables m start → mostVertices ≤ wide → Risen m 0 start mem
   risen-done mem p none done m L few = subst (λ (n : ℕ). Risen m n start mem) (omega arith) (done m L few)

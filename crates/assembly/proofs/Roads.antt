@@ -8,10 +8,14 @@ use native.Mathlib.Nat.{eq-or-lt-of-le}
 use native.Mathlib.Decide.{decLt, ℕ-discrete}
 use native.Mathlib.Numerals.{add-one}
 use native.Mathlib.Omega.{arith}
+use borrow.Author.Tests.{lt-ltb, le-ltb}
 use lib.ListN.{length, getD, set, length-set, List·getD-eq-default}
 use lib.Seq.{getD-set-same, getD-set-other}
+use Rattle.words.specs.Limits.{mostVertices, mostBorders}
 use Rattle.words.specs.Lists.{word, placeIn}
 use Rattle.words.proofs.Places.{entry-in, place-of-entry}
+use Rattle.cells.specs.Lowered.{lowered}
+use Rattle.layout.specs.Layout.{head·vertices, head·roads, part·size, part·rows, part·table, vertex·words, vertex·roads, road·words, road·to, road·weight, row·own, row·child, partWord, rowWord}
 use Rattle.roads.specs.Map.{Map, partCount, roadCount, noRoad, roadAt}
 use Rattle.roads.specs.Dist.{dist}
 use Rattle.roads.proofs.Laws.{dist-self, dist-road}
@@ -22,9 +26,11 @@ use Rattle.image.specs.Places.{verticesAt, roadsAt, tableOf}
 use Rattle.image.specs.Image.{firstRoadFrom, partBelow}
 use Rattle.image.specs.Records.{rowVertex}
 use Rattle.image.proofs.Records.{vertices-start, roads-start}
-use Rattle.assembly.specs.Laid.{Laid}
-use Rattle.assembly.specs.Lower.{lowered}
-use Rattle.assembly.specs.Steps.{RowIn, Noted, Apart, Marked, RoadsFor, RoadsOf, Roads}
+use Rattle.counts.specs.declared.Counts.{Counts}
+use Rattle.places.specs.Place.{countsIn, vertexAddress, roadAddress}
+use Rattle.road_lookup.specs.Lookup.{firstRoadIn}
+use Rattle.assembly.specs.Laid.{LaidForTables}
+use Rattle.assembly.specs.Steps.{RowIn, Noted, NotTogether, HaltsMarked, RoadsFor, RoadsOf, Roads}
 use Rattle.assembly.proofs.Places.{row-real, laid-kept}
 use Rattle.assembly.proofs.Lowering.{lower-none, lower-then, lower-one, lower-one-at}
 use Rattle.assembly.proofs.Below.{part-below-says}
@@ -41,13 +47,13 @@ row-differ m p i j hi hj e =
 
 module _ (mem : List ℕ) (p wide : ℕ) where
   abbrev pub NotedTo : ℕ → List ℕ → Type 0
-  NotedTo i place = (m : Map) → Laid m mem → p < partCount m → 4096 ≤ wide → Noted m p i place
+  NotedTo i place = (m : Map) → LaidForTables m mem → p < partCount m → mostVertices ≤ wide → Noted m p i place
 
   pub noted-first : (place : List ℕ) → NotedTo 0 place
   noted-first place m L hp few = record { each = λ i h. absurd (omega arith) }
 
-  pub noted-turn : {size first mark v at : ℕ} (place : List ℕ) {after : List ℕ} (i : ℕ) → i < size → size ≡ getD mem (64 + 8 * p + 1) 0 → length place ≡ wide → NotedTo i place →
-      first ≡ getD mem (64 + 8 * p + 2) 0 → mark ≡ getD mem (first + 4 * i + 2) 0 → ((u d : ℕ) → u < 65536 → mark ≡ u + 65536 * d → v ≡ u) →
+  pub noted-turn : {size first mark v at : ℕ} (place : List ℕ) {after : List ℕ} (i : ℕ) → i < size → size ≡ partWord mem p part·size → length place ≡ wide → NotedTo i place →
+      first ≡ partWord mem p part·rows → mark ≡ rowWord mem first i row·own → ((u d : ℕ) → u < row·child → mark ≡ u + row·child * d → v ≡ u) →
       at ≡ v → after ≡ set place at i → NotedTo (i + 1) after
   noted-turn {v = v} {at = at} place {after} i hi size-is long done first-is shown reads at-is put m L hp few =
       record {
@@ -67,26 +73,25 @@ module _ (mem : List ℕ) (p wide : ℕ) where
       own : at ≡ rowVertex m p i
       own = at-is ∙ shown-vertex m mem L p i hp fits first-is shown reads
 
-  pub noted-done : {size : ℕ} (place : List ℕ) (i : ℕ) → i ≤ size → size ≤ i → size ≡ getD mem (64 + 8 * p + 1) 0 → NotedTo i place → (m : Map) → Laid m mem → p < partCount m →
-      4096 ≤ wide → Noted m p (sizeOf m p) place
+  pub noted-done : {size : ℕ} (place : List ℕ) (i : ℕ) → i ≤ size → size ≤ i → size ≡ partWord mem p part·size → NotedTo i place → (m : Map) → LaidForTables m mem → p < partCount m →
+      mostVertices ≤ wide → Noted m p (sizeOf m p) place
   noted-done place i within all size-is done m L hp few = subst (λ (n : ℕ). Noted m p n place) (omega (arith, L .part p hp .size)) (done m L hp few)
 
 -- ---- the first road from a vertex
 
-pub first-road-shown : (mem : List ℕ) {v all parts at from r : ℕ} → all ≡ getD mem 2 0 → v < all → parts ≡ getD mem 4 0 → at ≡ parts → from ≡ v → r ≡ getD mem (64 + 8 * at + 8 * from + 2) 0 →
-    (m : Map) → Laid m mem → v ≤ m .vertices → r ≡ firstRoadFrom m v
-first-road-shown mem {v} {at = at} {from = from} all-is less parts-is at-is from-is shown m L hv =
-    shown ∙ ap (λ (x : ℕ). getD mem x 0) place ∙ L .first-road v (omega (arith, L .vertices))
+pub first-road-is : (mem : List ℕ) (v : ℕ) {counts : Counts} {r : ℕ} → counts ≡ countsIn mem → r ≡ firstRoadIn mem counts v →
+    (m : Map) → LaidForTables m mem → v ≤ m .vertices → r ≡ firstRoadFrom m v
+first-road-is mem v counts-is shown m L hv = shown ∙ ap (λ (c : Counts). firstRoadIn mem c v) counts-is ∙ by (decLt v (word mem head·vertices))
   where
-    place : 64 + 8 * at + 8 * from + 2 ≡ verticesAt m + 8 * v + 2
+    place : vertexAddress (countsIn mem) v + vertex·roads ≡ verticesAt m + vertex·words * v + vertex·roads
     place = omega (arith, vertices-start m, L .parts)
 
-pub first-road-end : (mem : List ℕ) {v all r : ℕ} → all ≡ getD mem 2 0 → all ≤ v → r ≡ getD mem 3 0 → (m : Map) → Laid m mem → v ≤ m .vertices → r ≡ firstRoadFrom m v
-first-road-end mem {v} all-is past shown m L hv =
-    shown ∙ L .roads ∙ sym (first-road-last m (L .sound)) ∙ ap (firstRoadFrom m) last
-  where
-    last : m .vertices ≡ v
-    last = omega (arith, L .vertices)
+    last : m .vertices ≡ v → word mem head·roads ≡ firstRoadFrom m v
+    last e = L .roads ∙ sym (first-road-last m (L .sound)) ∙ ap (firstRoadFrom m) e
+
+    by : Dec (v < word mem head·vertices) → firstRoadIn mem (countsIn mem) v ≡ firstRoadFrom m v
+    by (yes less) = rw (lt-ltb _ _ less) (ap (word mem) place ∙ L .first-road v (omega (arith, L .vertices)))
+    by (no past) = rw (le-ltb v (word mem head·vertices) (omega (arith, past))) (last (omega (arith, past, L .vertices)))
 
 -- ---- nothing done, and one thing after the other
 
@@ -109,7 +114,7 @@ module _ {m : Map} {p : ℕ} {Of : ℕ → ℕ → Type 0} where
 
 -- ---- one road
 
-module _ (mem place marks : List ℕ) (m : Map) (L : Laid m mem) (p i r : ℕ) (hp : p < partCount m) (hi : i < sizeOf m p) (hr : r < roadCount m) (N : Noted m p (sizeOf m p) place) where
+module _ (mem place marks : List ℕ) (m : Map) (L : LaidForTables m mem) (p i r : ℕ) (hp : p < partCount m) (hi : i < sizeOf m p) (hr : r < roadCount m) (N : Noted m p (sizeOf m p) place) where
   -- it leads elsewhere: nothing is to be done
   road-none : ((j : ℕ) → j < sizeOf m p → roadAt m r .from ≡ rowVertex m p i → roadAt m r .to ≡ rowVertex m p j → ⊥) → RoadsOf m p i r (suc r) mem mem marks marks
   road-none never = roads-none (λ s k j of hj starts ends.
@@ -122,7 +127,7 @@ module _ (mem place marks : List ℕ) (m : Map) (L : Laid m mem) (p i r : ℕ) (
   noted-is : {to at j : ℕ} → to ≡ roadAt m r .to → at ≡ to → j ≡ getD place at 0 → (k : ℕ) → k < sizeOf m p → roadAt m r .to ≡ rowVertex m p k → j ≡ k
   noted-is to-is at-is shown k hk ends = shown ∙ ap (λ (x : ℕ). getD place x 0) (at-is ∙ to-is ∙ ends) ∙ N .each k hk
 
-  pub road-past : {to at j size : ℕ} → to ≡ roadAt m r .to → at ≡ to → j ≡ getD place at 0 → size ≡ getD mem (64 + 8 * p + 1) 0 → size ≤ j → RoadsOf m p i r (suc r) mem mem marks marks
+  pub road-past : {to at j size : ℕ} → to ≡ roadAt m r .to → at ≡ to → j ≡ getD place at 0 → size ≡ partWord mem p part·size → size ≤ j → RoadsOf m p i r (suc r) mem mem marks marks
   road-past to-is at-is shown size-is past = road-none (λ k hk starts ends. omega (arith, noted-is to-is at-is shown k hk ends, L .part p hp .size))
 
   pub road-to-another : {to at j v : ℕ} → to ≡ roadAt m r .to → at ≡ to → j ≡ getD place at 0 → (j < sizeOf m p → v ≡ rowVertex m p j) → (to ≡ v → ⊥) → RoadsOf m p i r (suc r) mem mem marks marks
@@ -132,9 +137,9 @@ module _ (mem place marks : List ℕ) (m : Map) (L : Laid m mem) (p i r : ℕ) (
 
   -- it leads from row i to row j
   pub road-taken : {from to weight u v size table line j column : ℕ} {after : List ℕ} → from ≡ roadAt m r .from → to ≡ roadAt m r .to → weight ≡ roadAt m r .weight →
-      u ≡ rowVertex m p i → from ≡ u → size ≡ getD mem (64 + 8 * p + 1) 0 → j < size → (j < sizeOf m p → v ≡ rowVertex m p j) → to ≡ v →
-      table ≡ getD mem (64 + 8 * p + 3) 0 → line ≡ table + size * i → column ≡ j → after ≡ lowered mem (line + column) weight →
-      (marked : List ℕ) → ((k : ℕ) → word marks k ≡ 1 → word marked k ≡ 1) → (j < sizeOf m p → Apart m p i j → (word marked i ≡ 1) × (word marked j ≡ 1)) →
+      u ≡ rowVertex m p i → from ≡ u → size ≡ partWord mem p part·size → j < size → (j < sizeOf m p → v ≡ rowVertex m p j) → to ≡ v →
+      table ≡ partWord mem p part·table → line ≡ table + size * i → column ≡ j → after ≡ lowered mem (line + column) weight →
+      (marked : List ℕ) → ((k : ℕ) → word marks k ≡ 1 → word marked k ≡ 1) → (j < sizeOf m p → NotTogether m p i j → (word marked i ≡ 1) × (word marked j ≡ 1)) →
       RoadsOf m p i r (suc r) mem after marks marked
   road-taken {weight = weight} {size = size} {line = line} {j = j} {column = column} from-is to-is weight-is u-is starts size-is within v-is ends table-is line-is column-is after-is marked kept both =
       rw (after-is, there) (record {
@@ -174,24 +179,23 @@ module _ (mem place marks : List ℕ) (m : Map) (L : Laid m mem) (p i r : ℕ) (
 
 abbrev pub ByRoad : List ℕ → List ℕ → ℕ → ℕ → ℕ → List ℕ → List ℕ → List ℕ → Type 0
 ByRoad mem place p i r after marks marked =
-    (m : Map) → Laid m mem → p < partCount m → i < sizeOf m p → r < roadCount m → Noted m p (sizeOf m p) place → 128 ≤ length marks → RoadsOf m p i r (suc r) mem after marks marked
+    (m : Map) → LaidForTables m mem → p < partCount m → i < sizeOf m p → r < roadCount m → Noted m p (sizeOf m p) place → mostBorders ≤ length marks → RoadsOf m p i r (suc r) mem after marks marked
 
-module _ (mem place marks : List ℕ) (p i r : ℕ) {parts a all b c size first table from to weight at j mark u : ℕ}
-    (parts-is : parts ≡ getD mem 4 0) (a-is : a ≡ parts) (all-is : all ≡ getD mem 2 0) (b-is : b ≡ all) (c-is : c ≡ r)
-    (size-is : size ≡ getD mem (64 + 8 * p + 1) 0) (first-is : first ≡ getD mem (64 + 8 * p + 2) 0) (table-is : table ≡ getD mem (64 + 8 * p + 3) 0)
-    (from-is : from ≡ getD mem (64 + 8 * a + 8 * b + 4 * c) 0) (to-is : to ≡ getD mem (64 + 8 * a + 8 * b + 4 * c + 1) 0) (weight-is : weight ≡ getD mem (64 + 8 * a + 8 * b + 4 * c + 2) 0)
-    (at-is : at ≡ to) (j-is : j ≡ getD place at 0) (mark-is : mark ≡ getD mem (first + 4 * i + 2) 0) (reads : (v d : ℕ) → v < 65536 → mark ≡ v + 65536 * d → u ≡ v) where
-  there : (m : Map) → Laid m mem → 64 + 8 * a + 8 * b + 4 * c ≡ roadsAt m + 4 * r
-  there m L = omega (arith, roads-start m, L .parts, L .vertices)
+module _ (mem place marks : List ℕ) (p i r : ℕ) {counts : Counts} {road size first table from to weight at j mark u : ℕ} (counts-is : counts ≡ countsIn mem) (road-is : road ≡ roadAddress counts r)
+    (size-is : size ≡ partWord mem p part·size) (first-is : first ≡ partWord mem p part·rows) (table-is : table ≡ partWord mem p part·table)
+    (from-is : from ≡ word mem road) (to-is : to ≡ word mem (road + road·to)) (weight-is : weight ≡ word mem (road + road·weight))
+    (at-is : at ≡ to) (j-is : j ≡ getD place at 0) (mark-is : mark ≡ rowWord mem first i row·own) (reads : (v d : ℕ) → v < row·child → mark ≡ v + row·child * d → u ≡ v) where
+  there : (m : Map) → LaidForTables m mem → road ≡ roadsAt m + road·words * r
+  there m L = omega (arith, roads-start m, L .parts, L .vertices, road-is, ap (λ (c : Counts). roadAddress c r) counts-is)
 
-  starts-at : (m : Map) → Laid m mem → r < roadCount m → from ≡ roadAt m r .from
-  starts-at m L hr = from-is ∙ ap (λ (x : ℕ). getD mem x 0) (there m L) ∙ L .road r hr .from
+  starts-at : (m : Map) → LaidForTables m mem → r < roadCount m → from ≡ roadAt m r .from
+  starts-at m L hr = from-is ∙ ap (word mem) (there m L) ∙ L .road r hr .from
 
-  ends-at : (m : Map) → Laid m mem → r < roadCount m → to ≡ roadAt m r .to
-  ends-at m L hr = to-is ∙ ap (λ (x : ℕ). getD mem (x + 1) 0) (there m L) ∙ L .road r hr .to
+  ends-at : (m : Map) → LaidForTables m mem → r < roadCount m → to ≡ roadAt m r .to
+  ends-at m L hr = to-is ∙ ap (λ (x : ℕ). word mem (x + road·to)) (there m L) ∙ L .road r hr .to
 
-  weighs : (m : Map) → Laid m mem → r < roadCount m → weight ≡ roadAt m r .weight
-  weighs m L hr = weight-is ∙ ap (λ (x : ℕ). getD mem (x + 2) 0) (there m L) ∙ L .road r hr .weight
+  weighs : (m : Map) → LaidForTables m mem → r < roadCount m → weight ≡ roadAt m r .weight
+  weighs m L hr = weight-is ∙ ap (λ (x : ℕ). word mem (x + road·weight)) (there m L) ∙ L .road r hr .weight
 
   pub by-another : (from ≡ u → ⊥) → ByRoad mem place p i r mem marks marks
   by-another other m L hp hi hr N _ = road-from-another mem place marks m L p i r hp hi hr N (starts-at m L hr) (shown-vertex m mem L p i hp hi first-is mark-is reads) other
@@ -199,13 +203,13 @@ module _ (mem place marks : List ℕ) (p i r : ℕ) {parts a all b c size first 
   pub by-none : size ≤ j → ByRoad mem place p i r mem marks marks
   by-none past m L hp hi hr N _ = road-past mem place marks m L p i r hp hi hr N (ends-at m L hr) at-is j-is size-is past
 
-  module _ {mark′ v : ℕ} (mark′-is : mark′ ≡ getD mem (first + 4 * j + 2) 0) (reads′ : (w d : ℕ) → w < 65536 → mark′ ≡ w + 65536 * d → v ≡ w) where
+  module _ {mark′ v : ℕ} (mark′-is : mark′ ≡ rowWord mem first j row·own) (reads′ : (w d : ℕ) → w < row·child → mark′ ≡ w + row·child * d → v ≡ w) where
     pub by-other : (to ≡ v → ⊥) → ByRoad mem place p i r mem marks marks
     by-other other m L hp hi hr N _ =
         road-to-another mem place marks m L p i r hp hi hr N (ends-at m L hr) at-is j-is (λ hj. shown-vertex m mem L p j hp hj first-is mark′-is reads′) other
 
     pub by-own : {line column d e : ℕ} {after marked : List ℕ} → from ≡ u → j < size → to ≡ v → line ≡ table + size * i → column ≡ j → after ≡ lowered mem (line + column) weight →
-        ((w x : ℕ) → w < 65536 → mark ≡ w + 65536 * x → d ≡ x) → ((w x : ℕ) → w < 65536 → mark′ ≡ w + 65536 * x → e ≡ x) → Marked marks i j d e marked → ByRoad mem place p i r after marks marked
+        ((w x : ℕ) → w < row·child → mark ≡ w + row·child * x → d ≡ x) → ((w x : ℕ) → w < row·child → mark′ ≡ w + row·child * x → e ≡ x) → HaltsMarked marks i j d e marked → ByRoad mem place p i r after marks marked
     by-own {d = d} {e = e} {marked = marked} starts within ends line-is column-is after-is part-reads part-reads′ M m L hp hi hr N wide =
         road-taken mem place marks m L p i r hp hi hr N (starts-at m L hr) (ends-at m L hr) (weighs m L hr) (shown-vertex m mem L p i hp hi first-is mark-is reads) starts size-is within
         (λ hj. shown-vertex m mem L p j hp hj first-is mark′-is reads′) ends table-is line-is column-is after-is marked (M .kept)
@@ -217,7 +221,7 @@ module _ (mem place marks : List ℕ) (p i r : ℕ) {parts a all b c size first 
         other : j < sizeOf m p → e ≡ partBelow m p (rowVertex m p j)
         other hj = shown-part m mem L p j hp hj first-is mark′-is part-reads′
 
-        alone : j < sizeOf m p → Apart m p i j → d ≡ e → d ≡ 0
+        alone : j < sizeOf m p → NotTogether m p i j → d ≡ e → d ≡ 0
         alone hj apart same = elim (ℕ-discrete d 0) [
           | yes none ↦ none
           | no some ↦ absurd (apart d
@@ -229,14 +233,14 @@ module _ (mem place marks : List ℕ) (p i r : ℕ) {parts a all b c size first 
 
 module _ (start place marks : List ℕ) (p i from : ℕ) where
   abbrev pub RoadsTo : ℕ → List ℕ → List ℕ → Type 0
-  RoadsTo r mem marked = (m : Map) → Laid m start → p < partCount m → i < sizeOf m p → Noted m p (sizeOf m p) place → 128 ≤ length marks → RoadsOf m p i from r start mem marks marked
+  RoadsTo r mem marked = (m : Map) → LaidForTables m start → p < partCount m → i < sizeOf m p → Noted m p (sizeOf m p) place → mostBorders ≤ length marks → RoadsOf m p i from r start mem marks marked
 
   pub roads-first : RoadsTo from start marks
   roads-first m L hp hi N _ = roads-none (λ r k j of _ _ _. omega (arith, of .1, of .2))
 
   pub roads-turn : {first mark v end : ℕ} (before after marked marked′ : List ℕ) (r : ℕ) → length marked ≡ length marks → r < end →
-      first ≡ getD start (64 + 8 * p + 2) 0 → mark ≡ getD start (first + 4 * i + 2) 0 → ((u d : ℕ) → u < 65536 → mark ≡ u + 65536 * d → v ≡ u) →
-      ((m : Map) → Laid m start → v + 1 ≤ m .vertices → end ≡ firstRoadFrom m (v + 1)) → RoadsTo r before marked →
+      first ≡ partWord start p part·rows → mark ≡ rowWord start first i row·own → ((u d : ℕ) → u < row·child → mark ≡ u + row·child * d → v ≡ u) →
+      ((m : Map) → LaidForTables m start → v + 1 ≤ m .vertices → end ≡ firstRoadFrom m (v + 1)) → RoadsTo r before marked →
       ByRoad before place p i r after marked marked′ → RoadsTo (r + 1) after marked′
   roads-turn {v = v} before after marked marked′ r long hr first-is shown reads end-is done one m L hp hi N wide =
       let A = done m L hp hi N wide in
@@ -245,10 +249,10 @@ module _ (start place marks : List ℕ) (p i from : ℕ) where
       let B = one m (laid-kept m start before (A .lower .sized) (A .lower .outside) L) hp hi within N (omega (arith, wide)) in
       roads-then hp (λ s k of _. elim (eq-or-lt-of-le (of .2)) [ inl now ↦ inr (of .0, omega arith, omega arith) | inr less ↦ inl (of .0, of .1, omega arith) ]) A B
 
-  pub roads-done : {first mark v end : ℕ} (mem marked : List ℕ) (r : ℕ) → end ≤ r → first ≡ getD start (64 + 8 * p + 2) 0 → mark ≡ getD start (first + 4 * i + 2) 0 →
-      ((u d : ℕ) → u < 65536 → mark ≡ u + 65536 * d → v ≡ u) → ((m : Map) → Laid m start → v ≤ m .vertices → from ≡ firstRoadFrom m v) →
-      ((m : Map) → Laid m start → v + 1 ≤ m .vertices → end ≡ firstRoadFrom m (v + 1)) → RoadsTo r mem marked →
-      (m : Map) → Laid m start → p < partCount m → i < sizeOf m p → Noted m p (sizeOf m p) place → 128 ≤ length marks → RoadsOf m p i 0 (roadCount m) start mem marks marked
+  pub roads-done : {first mark v end : ℕ} (mem marked : List ℕ) (r : ℕ) → end ≤ r → first ≡ partWord start p part·rows → mark ≡ rowWord start first i row·own →
+      ((u d : ℕ) → u < row·child → mark ≡ u + row·child * d → v ≡ u) → ((m : Map) → LaidForTables m start → v ≤ m .vertices → from ≡ firstRoadFrom m v) →
+      ((m : Map) → LaidForTables m start → v + 1 ≤ m .vertices → end ≡ firstRoadFrom m (v + 1)) → RoadsTo r mem marked →
+      (m : Map) → LaidForTables m start → p < partCount m → i < sizeOf m p → Noted m p (sizeOf m p) place → mostBorders ≤ length marks → RoadsOf m p i 0 (roadCount m) start mem marks marked
   roads-done {v = v} {end = end} mem marked r all first-is shown reads from-is end-is done m L hp hi N wide =
       let A = done m L hp hi N wide in
       record {
@@ -274,29 +278,29 @@ module _ (start place marks : List ℕ) (p i from : ℕ) where
 
 module _ (start place marks : List ℕ) (p : ℕ) where
   abbrev pub RowsTaken : ℕ → List ℕ → List ℕ → Type 0
-  RowsTaken i mem marked = (m : Map) → Laid m start → p < partCount m → Noted m p (sizeOf m p) place → 128 ≤ length marks → Roads m p i start mem marks marked
+  RowsTaken i mem marked = (m : Map) → LaidForTables m start → p < partCount m → Noted m p (sizeOf m p) place → mostBorders ≤ length marks → Roads m p i start mem marks marked
 
   pub taken-first : RowsTaken 0 start marks
   taken-first m L hp N _ = roads-none (λ r i j of _ _ _. omega arith)
 
-  pub taken-turn : {size : ℕ} (before after marked marked′ : List ℕ) (i : ℕ) → length marked ≡ length marks → i < size → size ≡ getD start (64 + 8 * p + 1) 0 → RowsTaken i before marked →
-      ((m : Map) → Laid m before → p < partCount m → i < sizeOf m p → Noted m p (sizeOf m p) place → 128 ≤ length marked → RoadsOf m p i 0 (roadCount m) before after marked marked′) → RowsTaken (i + 1) after marked′
+  pub taken-turn : {size : ℕ} (before after marked marked′ : List ℕ) (i : ℕ) → length marked ≡ length marks → i < size → size ≡ partWord start p part·size → RowsTaken i before marked →
+      ((m : Map) → LaidForTables m before → p < partCount m → i < sizeOf m p → Noted m p (sizeOf m p) place → mostBorders ≤ length marked → RoadsOf m p i 0 (roadCount m) before after marked marked′) → RowsTaken (i + 1) after marked′
   taken-turn before after marked marked′ i long hi size-is done row m L hp N wide =
       let A = done m L hp N wide in
       let fits : i < sizeOf m p = omega (arith, L .part p hp .size) in
       let B = row m (laid-kept m start before (A .lower .sized) (A .lower .outside) L) hp fits N (omega (arith, wide)) in
       roads-then hp (λ r k hk hr. elim (eq-or-lt-of-le hk) [ inl now ↦ inr (omega arith, omega arith, hr) | inr less ↦ inl (omega arith) ]) A B
 
-  pub taken-done : {size : ℕ} (mem marked : List ℕ) (i : ℕ) → i ≤ size → size ≤ i → size ≡ getD start (64 + 8 * p + 1) 0 → RowsTaken i mem marked →
-      (m : Map) → Laid m start → p < partCount m → Noted m p (sizeOf m p) place → 128 ≤ length marks → Roads m p (sizeOf m p) start mem marks marked
+  pub taken-done : {size : ℕ} (mem marked : List ℕ) (i : ℕ) → i ≤ size → size ≤ i → size ≡ partWord start p part·size → RowsTaken i mem marked →
+      (m : Map) → LaidForTables m start → p < partCount m → Noted m p (sizeOf m p) place → mostBorders ≤ length marks → Roads m p (sizeOf m p) start mem marks marked
   taken-done mem marked i within all size-is done m L hp N wide = subst (λ (n : ℕ). Roads m p n start mem marks marked) (omega (arith, L .part p hp .size)) (done m L hp N wide)
 
 -- ---- marks
 
-pub mark-none : (marks : List ℕ) {i j d e : ℕ} → d ≡ e → (d ≡ 0 → ⊥) → Marked marks i j d e marks
+pub mark-none : (marks : List ℕ) {i j d e : ℕ} → d ≡ e → (d ≡ 0 → ⊥) → HaltsMarked marks i j d e marks
 mark-none marks same some = record { kept = λ k h. h; both = λ _ _ none. absurd (some (none same)) }
 
-pub mark-both : (marks : List ℕ) {i j d e a b : ℕ} {one two : List ℕ} → a ≡ i → b ≡ j → one ≡ set marks a 1 → two ≡ set one b 1 → Marked marks i j d e two
+pub mark-both : (marks : List ℕ) {i j d e a b : ℕ} {one two : List ℕ} → a ≡ i → b ≡ j → one ≡ set marks a 1 → two ≡ set one b 1 → HaltsMarked marks i j d e two
 mark-both marks {i} {j} a-is b-is one-is two-is = rw (two-is, one-is, a-is, b-is) (record {
   kept = λ k h. mark-kept (set marks i 1) j k (mark-kept marks i k h);
   both = λ hi hj _. (mark-kept (set marks i 1) j i (getD-set-same marks i 1 0 hi), getD-set-same (set marks i 1) j 1 0 (omega (arith, length-set marks i 1)));

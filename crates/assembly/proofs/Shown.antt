@@ -6,29 +6,30 @@ use mathlib.Core.List.{List}
 use Prim.Native.Nat.{ℕ, _+_, _*_, _<_}
 use native.Mathlib.Omega.{arith}
 use lib.ListN.{getD}
+use Rattle.layout.specs.Layout.{part·size, part·rows, part·table, row·words, row·own, row·child, row·below, partWord, rowWord}
 use Rattle.roads.specs.Map.{Map, partCount}
 use Rattle.parts.specs.Size.{sizeOf}
 use Rattle.parts.proofs.Down.{children-says}
 use Rattle.image.specs.Image.{partBelow}
 use Rattle.image.specs.Records.{rowVertex}
-use Rattle.assembly.specs.Laid.{Laid}
+use Rattle.assembly.specs.Laid.{LaidForTables}
 use Rattle.assembly.specs.Steps.{RowIn, placeBelow, RowBelow}
 use Rattle.assembly.proofs.Places.{row-real}
 use Rattle.assembly.proofs.Below.{child-later, part-below, part-below-says, row-below}
 
-module _ (m : Map) (mem : List ℕ) (L : Laid m mem) (p i : ℕ) (hp : p < partCount m) (hi : i < sizeOf m p) {first mark : ℕ}
-    (first-is : first ≡ getD mem (64 + 8 * p + 2) 0) (shown : mark ≡ getD mem (first + 4 * i + 2) 0) where
+module _ (m : Map) (mem : List ℕ) (L : LaidForTables m mem) (p i : ℕ) (hp : p < partCount m) (hi : i < sizeOf m p) {first mark : ℕ}
+    (first-is : first ≡ partWord mem p part·rows) (shown : mark ≡ rowWord mem first i row·own) where
   -- the vertex fits beside the child in one word
-  small : rowVertex m p i < 65536
+  small : rowVertex m p i < row·child
   small = omega (arith, row-real m p i hi, L .sound .vertices .1)
 
-  mark-is : mark ≡ rowVertex m p i + 65536 * partBelow m p (rowVertex m p i)
-  mark-is = shown ∙ ap (λ (f : ℕ). getD mem (f + 4 * i + 2) 0) (first-is ∙ L .part p hp .first-row) ∙ L .row p i hp hi .mark
+  mark-is : mark ≡ rowVertex m p i + row·child * partBelow m p (rowVertex m p i)
+  mark-is = shown ∙ ap (λ (f : ℕ). rowWord mem f i row·own) (first-is ∙ L .part p hp .first-row) ∙ L .row p i hp hi .mark
 
-  pub shown-vertex : {v : ℕ} → ((u d : ℕ) → u < 65536 → mark ≡ u + 65536 * d → v ≡ u) → v ≡ rowVertex m p i
+  pub shown-vertex : {v : ℕ} → ((u d : ℕ) → u < row·child → mark ≡ u + row·child * d → v ≡ u) → v ≡ rowVertex m p i
   shown-vertex reads = reads (rowVertex m p i) (partBelow m p (rowVertex m p i)) small mark-is
 
-  module _ {c : ℕ} (reads : (u d : ℕ) → u < 65536 → mark ≡ u + 65536 * d → c ≡ d) where
+  module _ {c : ℕ} (reads : (u d : ℕ) → u < row·child → mark ≡ u + row·child * d → c ≡ d) where
     pub shown-part : c ≡ partBelow m p (rowVertex m p i)
     shown-part = reads (rowVertex m p i) (partBelow m p (rowVertex m p i)) small mark-is
 
@@ -43,16 +44,16 @@ module _ (m : Map) (mem : List ℕ) (L : Laid m mem) (p i : ℕ) (hp : p < partC
       shown-later : (c < partCount m) × (p < c)
       shown-later = child-later m (L .sound) p c (shown-in .is-child)
 
-      pub shown-place : {row firstBelow k : ℕ} → firstBelow ≡ getD mem (64 + 8 * c + 2) 0 → row ≡ getD mem (first + 4 * i + 3) 0 → ((n : ℕ) → row ≡ firstBelow + 4 * n → k ≡ n) → k ≡ placeBelow m p i c
+      pub shown-place : {row firstBelow k : ℕ} → firstBelow ≡ partWord mem c part·rows → row ≡ rowWord mem first i row·below → ((n : ℕ) → row ≡ firstBelow + row·words * n → k ≡ n) → k ≡ placeBelow m p i c
       shown-place below-is points finds =
           finds (placeBelow m p i c)
-          (points ∙ ap (λ (f : ℕ). getD mem (f + 4 * i + 3) 0) (first-is ∙ L .part p hp .first-row) ∙ L .row p i hp hi .below ∙ row-below m (L .sound) p i c hi shown-in
+          (points ∙ ap (λ (f : ℕ). rowWord mem f i row·below) (first-is ∙ L .part p hp .first-row) ∙ L .row p i hp hi .below ∙ row-below m (L .sound) p i c hi shown-in
           ∙ ap (λ (f : ℕ). f + 4 * placeBelow m p i c) (sym (below-is ∙ L .part c (shown-later .0) .first-row)))
 
-pub below-shown : (mem : List ℕ) {i first mark part row size firstBelow table k : ℕ} → mark ≡ getD mem (first + 4 * i + 2) 0 → ((v d : ℕ) → v < 65536 → mark ≡ v + 65536 * d → part ≡ d) →
-    size ≡ getD mem (64 + 8 * part + 1) 0 → firstBelow ≡ getD mem (64 + 8 * part + 2) 0 → table ≡ getD mem (64 + 8 * part + 3) 0 →
-    row ≡ getD mem (first + 4 * i + 3) 0 → ((n : ℕ) → row ≡ firstBelow + 4 * n → k ≡ n) →
-    (m : Map) (p : ℕ) → Laid m mem → p < partCount m → i < sizeOf m p → first ≡ getD mem (64 + 8 * p + 2) 0 → RowBelow m p i part size firstBelow table k
+pub below-shown : (mem : List ℕ) {i first mark part row size firstBelow table k : ℕ} → mark ≡ rowWord mem first i row·own → ((v d : ℕ) → v < row·child → mark ≡ v + row·child * d → part ≡ d) →
+    size ≡ partWord mem part part·size → firstBelow ≡ partWord mem part part·rows → table ≡ partWord mem part part·table →
+    row ≡ rowWord mem first i row·below → ((n : ℕ) → row ≡ firstBelow + row·words * n → k ≡ n) →
+    (m : Map) (p : ℕ) → LaidForTables m mem → p < partCount m → i < sizeOf m p → first ≡ partWord mem p part·rows → RowBelow m p i part size firstBelow table k
 below-shown mem {i} {part = part} shown reads size-is below-is table-is points finds m p L hp hi first-is = record {
   alone = shown-nowhere m mem L p i hp hi first-is shown reads;
   row-in = shown-in m mem L p i hp hi first-is shown reads;

@@ -12,7 +12,7 @@ use Rattle.parts.specs.Size.{rowVertices, sizeOf}
 use Rattle.image.specs.Places.{tableOf, firstRowOf}
 use Rattle.image.specs.Records.{rowVertex}
 use Rattle.table_rows.specs.Flat.{Tried}
-use Rattle.assembly.specs.Laid.{entry, Outside}
+use Rattle.assembly.specs.Laid.{tableEntry, OutsideTables}
 use Rattle.assembly.specs.Lower.{Lower, Inside, Short}
 
 -- ---- a row of a part and the same vertex's row in a child
@@ -42,8 +42,8 @@ pub record RowBelow (m : Map) (p i part size first table row : ℕ) : Type 0 whe
 -- for the rows i and j of part p with `Of i j`: the words of part and child are no more than what the other was
 pub record AgreedFor (m : Map) (low p : ℕ) (Of : ℕ → ℕ → Type 0) (before after : List ℕ) : Type 0 where
   pub lower : Lower m low before after
-  pub up : (c i j : ℕ) → Of i j → i < sizeOf m p → j < sizeOf m p → RowIn m p i c → RowIn m p j c → entry m after p i j ≤ entry m before c (placeBelow m p i c) (placeBelow m p j c)
-  pub down : (c i j : ℕ) → Of i j → i < sizeOf m p → j < sizeOf m p → RowIn m p i c → RowIn m p j c → entry m after c (placeBelow m p i c) (placeBelow m p j c) ≤ entry m before p i j
+  pub up : (c i j : ℕ) → Of i j → i < sizeOf m p → j < sizeOf m p → RowIn m p i c → RowIn m p j c → tableEntry m after p i j ≤ tableEntry m before c (placeBelow m p i c) (placeBelow m p j c)
+  pub down : (c i j : ℕ) → Of i j → i < sizeOf m p → j < sizeOf m p → RowIn m p i c → RowIn m p j c → tableEntry m after c (placeBelow m p i c) (placeBelow m p j c) ≤ tableEntry m before p i j
 
 -- for the rows i and j
 abbrev pub AgreedPair : Map → (low p i j : ℕ) → List ℕ → List ℕ → Type 0
@@ -73,11 +73,11 @@ pub record Noted (m : Map) (p n : ℕ) (place : List ℕ) : Type 0 where
   pub each : (i : ℕ) → i < n → word place (rowVertex m p i) ≡ i
 
 -- the vertices of rows i and j stand in no child together
-abbrev pub Apart : Map → ℕ → ℕ → ℕ → Type 0
-Apart m p i j = (c : ℕ) → RowIn m p i c → RowIn m p j c → ⊥
+abbrev pub NotTogether : Map → ℕ → ℕ → ℕ → Type 0
+NotTogether m p i j = (c : ℕ) → RowIn m p i c → RowIn m p j c → ⊥
 
 -- rows i and j have been marked, unless d and e are one child
-pub record Marked (marks : List ℕ) (i j d e : ℕ) (marked : List ℕ) : Type 0 where
+pub record HaltsMarked (marks : List ℕ) (i j d e : ℕ) (marked : List ℕ) : Type 0 where
   pub kept : (k : ℕ) → word marks k ≡ 1 → word marked k ≡ 1
   pub both : i < length marks → j < length marks → (d ≡ e → d ≡ 0) → (word marked i ≡ 1) × (word marked j ≡ 1)
 
@@ -87,7 +87,7 @@ pub record RoadsFor (m : Map) (p : ℕ) (Of : ℕ → ℕ → Type 0) (before af
   pub lower : Lower m p before after
   pub kept : (k : ℕ) → word marks k ≡ 1 → word marked k ≡ 1
   pub road : (r i j : ℕ) → Of r i → r < roadCount m → i < sizeOf m p → j < sizeOf m p → roadAt m r .from ≡ rowVertex m p i → roadAt m r .to ≡ rowVertex m p j →
-      (entry m after p i j ≤ roadAt m r .weight) × (Apart m p i j → (word marked i ≡ 1) × (word marked j ≡ 1))
+      (tableEntry m after p i j ≤ roadAt m r .weight) × (NotTogether m p i j → (word marked i ≡ 1) × (word marked j ≡ 1))
 
 -- the roads with a number of at least `from` and below `to`, from the vertex of row i
 abbrev pub RoadsOf : Map → (p i from to : ℕ) → (before after marks marked : List ℕ) → Type 0
@@ -101,11 +101,11 @@ Roads m p n = RoadsFor m p (λ r i. i < n)
 
 -- no way round by row k is lighter
 abbrev pub Tight : Map → ℕ → ℕ → List ℕ → Type 0
-Tight m q k mem = (i j : ℕ) → i < sizeOf m q → j < sizeOf m q → entry m mem q i j ≤ entry m mem q i k + entry m mem q k j
+Tight m q k mem = (i j : ℕ) → i < sizeOf m q → j < sizeOf m q → tableEntry m mem q i j ≤ tableEntry m mem q i k + tableEntry m mem q k j
 
 -- a word of the diagonal is 0
 abbrev pub AtHome : Map → ℕ → List ℕ → Type 0
-AtHome m q mem = (i : ℕ) → i < sizeOf m q → entry m mem q i i ≤ 0
+AtHome m q mem = (i : ℕ) → i < sizeOf m q → tableEntry m mem q i i ≤ 0
 
 -- of the first n rows of p those marked as halts have been tried in the table of p
 pub record Closed (m : Map) (p n : ℕ) (marked before after : List ℕ) : Type 0 where
@@ -134,7 +134,7 @@ pub record Entered (m : Map) (p n : ℕ) (before after : List ℕ) : Type 0 wher
 -- the tables from that of p on are right inside their parts, and no word outside the tables has changed
 pub record Risen (m : Map) (p : ℕ) (before after : List ℕ) : Type 0 where
   pub sized : length after ≡ length before
-  pub outside : (x : ℕ) → Outside m x → word after x ≡ word before x
+  pub outside : (x : ℕ) → OutsideTables m x → word after x ≡ word before x
   pub inside : Inside m p after
 
 -- so are all tables, and those of the root and of all parts whose parent is below p have no word above the distance

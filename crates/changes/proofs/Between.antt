@@ -9,8 +9,9 @@ use lib.Seq.{getD-set-same, getD-set-other}
 use native.Mathlib.Decide.{ℕ-discrete}
 use Rattle.words.specs.Limits.{vans}
 use Rattle.words.specs.Lists.{word}
+use Rattle.layout.specs.Layout.{vertex·words, vertex·vans, van·words}
 use Rattle.roads.specs.Map.{Map}
-use Rattle.places.specs.Place.{vertexAt, vanAt}
+use Rattle.places.specs.Place.{vertexAddress, vanAddress}
 use Rattle.fleet.specs.State.{Slot, absent, present, State, active, slotOf}
 use Rattle.image.specs.Places.{verticesAt, vansAt, tablesAt, rowsAt, itselfAt, tableOf, firstRowOf}
 use Rattle.image.specs.Image.{headPart, vertexRecord, image}
@@ -26,7 +27,7 @@ withCount s count = record { count = count; vans = s .vans }
 
 module _ (m : Map) (s t : State) (slots : length (s .vans) ≡ vans) (slots′ : length (t .vans) ≡ vans) (same-count : s .count ≡ t .count)
     (after : List ℕ) (parked : Parked m (countsOf m) t after) (only : OnlyVans (countsOf m) (image m s) after) where
-  before-vans : (a : ℕ) → a < vansAt m → ((v : ℕ) → v < m .vertices → a ≡ vertexAt (countsOf m) v + 4 → ⊥) → word after a ≡ word (image m s) a
+  before-vans : (a : ℕ) → a < vansAt m → ((v : ℕ) → v < m .vertices → a ≡ vertexAddress (countsOf m) v + vertex·vans → ⊥) → word after a ≡ word (image m s) a
   before-vans a early no-first = only .other a no-first (λ x f hx hf e. omega (arith, roads-start m, vans-start m))
 
   past-vans : (a : ℕ) → tablesAt m ≤ a → word after a ≡ word (image m s) a
@@ -50,22 +51,22 @@ module _ (m : Map) (s t : State) (slots : length (s .vans) ≡ vans) (slots′ :
   vertex-same v (suc (suc (suc (suc (suc (suc (suc zero))))))) hv hw no4 no5 no6 = refl
   vertex-same v (suc (suc (suc (suc (suc (suc (suc (suc w)))))))) hv hw no4 no5 no6 = absurd (omega arith)
 
-  in-vertex : (v w : ℕ) → v < m .vertices → w < 8 → (w ≡ 5 → ⊥) → (w ≡ 6 → ⊥) → word after (verticesAt m + 8 * v + w) ≡ word (image m t) (verticesAt m + 8 * v + w)
+  in-vertex : (v w : ℕ) → v < m .vertices → w < 8 → (w ≡ 5 → ⊥) → (w ≡ 6 → ⊥) → word after (verticesAt m + vertex·words * v + w) ≡ word (image m t) (verticesAt m + vertex·words * v + w)
   unfolding vertexRecord linkFrom
   in-vertex v w hv hw no5 no6 =
       elim (ℕ-discrete w 4) [
         | yes here ↦ rw here (ap (word after) (sym (vertex-place m v 4)) ∙ parked .first v hv ∙ sym (vertex-word m t slots′ v 4 hv (omega arith)))
         | no other ↦
-            before-vans (verticesAt m + 8 * v + w) (omega (arith, vertices-start m, roads-start m, vans-start m)) (λ u hu e. omega (arith, vertices-start m))
+            before-vans (verticesAt m + vertex·words * v + w) (omega (arith, vertices-start m, roads-start m, vans-start m)) (λ u hu e. omega (arith, vertices-start m))
             ∙ vertex-word m s slots v w hv hw
             ∙ vertex-same v w hv hw other no5 no6
             ∙ sym (vertex-word m t slots′ v w hv hw)
       ]
 
-  in-van : (x w : ℕ) → x < vans → w < 8 → word after (vansAt m + 8 * x + w) ≡ word (image m t) (vansAt m + 8 * x + w)
+  in-van : (x w : ℕ) → x < vans → w < 8 → word after (vansAt m + van·words * x + w) ≡ word (image m t) (vansAt m + van·words * x + w)
   in-van x w hx hw =
       ap (word after) (sym (van-place m x w))
-      ∙ field after (vanAt (countsOf m) x) 8 (slotWords m t x (slotOf t x)) w hw (parked .van x hx)
+      ∙ field after (vanAddress (countsOf m) x) van·words (slotWords m t x (slotOf t x)) w hw (parked .van x hx)
       ∙ ap (λ (l : List ℕ). word l w) (sym (van-record m t x))
       ∙ sym (van-word m t slots′ x w hx hw)
 

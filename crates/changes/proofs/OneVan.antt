@@ -12,13 +12,14 @@ use borrow.Author.Tests.{eq-eqb, ne-eqb}
 use Rattle.words.specs.Limits.{vans}
 use Rattle.words.specs.Lists.{word}
 use Rattle.words.proofs.Tests.{clash}
+use Rattle.layout.specs.Layout.{vertex·vans}
 use Rattle.roads.specs.Map.{Map}
 use Rattle.maps.specs.Sound.{Sound}
-use Rattle.places.specs.Place.{vertexAt}
+use Rattle.places.specs.Place.{vertexAddress}
 use Rattle.fleet.specs.State.{Slot, State, slotOf, headsFor, active}
 use Rattle.image.specs.Image.{image}
-use Rattle.van_lists.specs.Slot.{wordsOf}
-use Rattle.van_lists.specs.Walk.{written, takenOut, putIn}
+use Rattle.van_lists.specs.Slot.{standingWords}
+use Rattle.van_lists.specs.Walk.{vanWritten, takenOut, putIn}
 use Rattle.van_lists.proofs.Found.{Found, nothing, found}
 use Rattle.van_lists.proofs.Links.{withSlot, headsAt, linkFrom, link-found, active-first}
 use Rattle.van_lists.proofs.Parked.{Parked}
@@ -26,7 +27,7 @@ use Rattle.van_lists.proofs.Relink.{slot-new, slots-kept, link-elsewhere}
 use Rattle.van_lists.proofs.OneVan.{one-head, parked-kept, kept-only, parked-out, out-only, parked-in, in-only}
 use Rattle.row_memory.specs.Old.{RowsOld}
 use Rattle.row_memory.proofs.Whole.{image-unswitched, image-switched}
-use Rattle.changes.specs.Made.{switchedAlone, departed, arrived}
+use Rattle.changes.specs.Made.{switchedAlone, vanDeparted, vanArrived}
 use Rattle.changes.proofs.Reading.{countsOf, image-parked}
 use Rattle.changes.proofs.Between.{rows-old}
 
@@ -57,7 +58,7 @@ module _ (m : Map) (sound : Sound m) (s : State) (slots : length (s .vans) ≡ v
   active-same v same =
       active-first m s v ∙ ap (λ (k : ℕ). not (eqb k 0)) (sym (link-elsewhere m s slots n is-van new v 0 (omega arith) same)) ∙ sym (active-first m (withSlot s n new) v)
 
-  pub image-kept : ((v : ℕ) → headsFor m v new ≡ headsAt m s v n) → written (image m s) (countsOf m) n (wordsOf new) ≡ image m (withSlot s n new)
+  pub image-kept : ((v : ℕ) → headsFor m v new ≡ headsAt m s v n) → vanWritten (image m s) (countsOf m) n (standingWords new) ≡ image m (withSlot s n new)
   image-kept same =
       image-unswitched m s (withSlot s n new) slots anew _
       (rows-old m s (withSlot s n new) slots anew refl _ (parked-kept m (countsOf m) s slots (image m s) parked n is-van new same) (kept-only m (countsOf m) s slots (image m s) parked n is-van new))
@@ -80,29 +81,29 @@ module _ (m : Map) (sound : Sound m) (s : State) (slots : length (s .vans) ≡ v
               (λ v is-vertex. elim (ℕ-discrete v p) [ yes here ↦ rw here (more some) | no away ↦ elsewhere v away ]))
         ]
 
-    pub image-departed : headsAt m s p n ≡ true → ((v : ℕ) → headsFor m v new ≡ false) → departed (image m s) (countsOf m) n p (wordsOf new) ≡ image m (withSlot s n new)
-    unfolding departed
+    pub image-departed : headsAt m s p n ≡ true → ((v : ℕ) → headsFor m v new ≡ false) → vanDeparted (image m s) (countsOf m) n p (standingWords new) ≡ image m (withSlot s n new)
+    unfolding vanDeparted
     image-departed was nowhere =
         image-alone _ half _ false (by-none m (withSlot s n new) p _ first)
         (λ some. active-by m s slots p n is-van was ∙ sym (by-first m (withSlot s n new) p _ first some))
         (λ u away. active-same u (nowhere u ∙ sym (one-head m u p (slotOf s n) was away)))
       where
-        out : Parked m (countsOf m) (withSlot s n new) (takenOut (image m s) (countsOf m) n p (wordsOf new))
+        out : Parked m (countsOf m) (withSlot s n new) (takenOut (image m s) (countsOf m) n p (standingWords new))
         out = parked-out m (countsOf m) s slots (image m s) parked n is-van new p vertex was nowhere
 
-        half : RowsOld m s (withSlot s n new) (takenOut (image m s) (countsOf m) n p (wordsOf new))
+        half : RowsOld m s (withSlot s n new) (takenOut (image m s) (countsOf m) n p (standingWords new))
         half = rows-old m s (withSlot s n new) slots anew refl _ out (out-only m (countsOf m) s slots (image m s) parked n is-van new p vertex)
 
-        first : word (takenOut (image m s) (countsOf m) n p (wordsOf new)) (vertexAt (countsOf m) p + 4) ≡ linkFrom m (withSlot s n new) p 0
+        first : word (takenOut (image m s) (countsOf m) n p (standingWords new)) (vertexAddress (countsOf m) p + vertex·vans) ≡ linkFrom m (withSlot s n new) p 0
         first = out .first p vertex
 
-    pub image-arrived : ((v : ℕ) → headsAt m s v n ≡ false) → headsFor m p new ≡ true → arrived (image m s) (countsOf m) n p (wordsOf new) ≡ image m (withSlot s n new)
-    unfolding arrived
+    pub image-arrived : ((v : ℕ) → headsAt m s v n ≡ false) → headsFor m p new ≡ true → vanArrived (image m s) (countsOf m) n p (standingWords new) ≡ image m (withSlot s n new)
+    unfolding vanArrived
     image-arrived was there =
         image-alone _ half _ true (λ none. now) (λ some. by-first m s p _ (parked .first p vertex) some ∙ sym now)
         (λ u away. active-same u (one-head m u p new there away ∙ sym (was u)))
       where
-        half : RowsOld m s (withSlot s n new) (putIn (image m s) (countsOf m) n p (wordsOf new))
+        half : RowsOld m s (withSlot s n new) (putIn (image m s) (countsOf m) n p (standingWords new))
         half =
             rows-old m s (withSlot s n new) slots anew refl _ (parked-in m (countsOf m) s slots (image m s) parked n is-van new p vertex was there)
             (in-only m (countsOf m) s slots (image m s) parked n is-van new p vertex)

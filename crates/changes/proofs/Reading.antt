@@ -11,10 +11,11 @@ use Rattle.words.specs.Limits.{vans}
 use Rattle.words.specs.Lists.{word}
 use Rattle.cells.specs.Part.{part}
 use Rattle.cells.proofs.Part.{part-length, part-at}
+use Rattle.layout.specs.Layout.{vertex·words, road·words, van·words, van·road, van·offset, van·stamp}
 use Rattle.roads.specs.Map.{Map, partCount, roadCount, roadAt}
 use Rattle.parts.specs.Size.{need}
 use Rattle.counts.specs.declared.Counts.{Counts}
-use Rattle.places.specs.Place.{countsIn, vertexAt, roadAt as roadPlace, vanAt}
+use Rattle.places.specs.Place.{countsIn, vertexAddress, roadAddress, vanAddress}
 use Rattle.fleet.specs.State.{Slot, absent, present, State, slotOf}
 use Rattle.image.specs.Places.{verticesAt, roadsAt, vansAt, tablesAt}
 use Rattle.image.specs.Image.{headPart, vertexRecord, image}
@@ -22,11 +23,11 @@ use Rattle.image.specs.Records.{roadRecord}
 use Rattle.image.proofs.Length.{image-length}
 use Rattle.image.proofs.Records.{vertices-start, roads-start, vans-start, tables-start, rows-start, rows-end, head-word, vertex-word, road-word, van-word}
 use Rattle.van_lists.specs.declared.VanWords.{VanWords}
-use Rattle.van_lists.specs.Slot.{wordsOf}
+use Rattle.van_lists.specs.Slot.{standingWords}
 use Rattle.van_lists.specs.Walk.{vanIn}
 use Rattle.van_lists.proofs.Links.{linkFrom, slotWords, van-record}
 use Rattle.van_lists.proofs.Parked.{Parked, field}
-use Rattle.road_lookup.specs.Lookup.{RoadsStand}
+use Rattle.road_lookup.specs.Lookup.{RoadsKnown}
 use Rattle.refusals.specs.Verdict.{weightIn}
 
 abbrev pub countsOf : Map → Counts
@@ -38,17 +39,17 @@ slot-length m s n (present v) = refl
 
 -- where records stand, by the counts and by the map
 module _ (m : Map) where
-  pub vertex-place : (v w : ℕ) → vertexAt (countsOf m) v + w ≡ verticesAt m + 8 * v + w
+  pub vertex-place : (v w : ℕ) → vertexAddress (countsOf m) v + w ≡ verticesAt m + vertex·words * v + w
   vertex-place v w = omega (arith, vertices-start m)
 
-  pub road-place : (i w : ℕ) → roadPlace (countsOf m) i + w ≡ roadsAt m + 4 * i + w
+  pub road-place : (i w : ℕ) → roadAddress (countsOf m) i + w ≡ roadsAt m + road·words * i + w
   road-place i w = omega (arith, roads-start m)
 
-  pub van-place : (x w : ℕ) → vanAt (countsOf m) x + w ≡ vansAt m + 8 * x + w
+  pub van-place : (x w : ℕ) → vanAddress (countsOf m) x + w ≡ vansAt m + van·words * x + w
   van-place x w = omega (arith, roads-start m, vans-start m)
 
   -- the vans end before the tables
-  pub vans-end : vanAt (countsOf m) vans ≡ tablesAt m
+  pub vans-end : vanAddress (countsOf m) vans ≡ tablesAt m
   vans-end = omega (arith, roads-start m, vans-start m, tables-start m)
 
   pub tables-within : tablesAt m ≤ need m
@@ -66,18 +67,18 @@ module _ (m : Map) (s : State) (slots : length (s .vans) ≡ vans) where
   unfolding headPart
   count-read = head-word m s slots 5 (omega arith)
 
-  van-at : (x : ℕ) → x < vans → part (image m s) (vanAt (countsOf m) x) 8 ≡ slotWords m s x (slotOf s x)
+  van-at : (x : ℕ) → x < vans → part (image m s) (vanAddress (countsOf m) x) van·words ≡ slotWords m s x (slotOf s x)
   van-at x h =
       ext-getD 0 _ _ (long ∙ sym (slot-length m s x (slotOf s x)))
       (λ w inside.
       let small : w < 8 = omega (arith, long) in
-      part-at (image m s) (vanAt (countsOf m) x) 8 w small
+      part-at (image m s) (vanAddress (countsOf m) x) van·words w small
       ∙ ap (word (image m s)) (van-place m x w)
       ∙ van-word m s slots x w h small
       ∙ ap (λ (l : List ℕ). word l w) (van-record m s x))
     where
-      long : length (part (image m s) (vanAt (countsOf m) x) 8) ≡ 8
-      long = part-length (image m s) (vanAt (countsOf m) x) 8 (omega (arith, image-length m s slots, vans-end m, tables-within m))
+      long : length (part (image m s) (vanAddress (countsOf m) x) 8) ≡ 8
+      long = part-length (image m s) (vanAddress (countsOf m) x) van·words (omega (arith, image-length m s slots, vans-end m, tables-within m))
 
   pub image-parked : Parked m (countsOf m) s (image m s)
   unfolding vertexRecord linkFrom
@@ -88,7 +89,7 @@ module _ (m : Map) (s : State) (slots : length (s .vans) ≡ vans) where
         van = van-at;
       }
 
-  pub image-roads : RoadsStand m (countsOf m) (image m s)
+  pub image-roads : RoadsKnown m (countsOf m) (image m s)
   unfolding vertexRecord roadRecord
   image-roads =
       record {
@@ -102,18 +103,18 @@ module _ (m : Map) (s : State) (slots : length (s .vans) ≡ vans) where
   unfolding roadRecord
   image-weights i h = ap (word (image m s)) (road-place m i 2) ∙ road-word m s slots i 2 h (omega arith)
 
-  pub van-read : (x : ℕ) → x < vans → vanIn (image m s) (countsOf m) x ≡ wordsOf (slotOf s x)
-  van-read x h = words (slotOf s x) (λ w small. field (image m s) (vanAt (countsOf m) x) 8 _ w small (van-at x h))
+  pub van-read : (x : ℕ) → x < vans → vanIn (image m s) (countsOf m) x ≡ standingWords (slotOf s x)
+  van-read x h = words (slotOf s x) (λ w small. field (image m s) (vanAddress (countsOf m) x) van·words _ w small (van-at x h))
     where
-      words : (slot : Slot) → ((w : ℕ) → w < 8 → word (image m s) (vanAt (countsOf m) x + w) ≡ word (slotWords m s x slot) w) → vanIn (image m s) (countsOf m) x ≡ wordsOf slot
-      words slot at = by slot (ap (word (image m s)) (sym (add-zero (vanAt (countsOf m) x))) ∙ at 0 (omega arith)) (at 1 (omega arith)) (at 2 (omega arith)) (at 3 (omega arith))
+      words : (slot : Slot) → ((w : ℕ) → w < 8 → word (image m s) (vanAddress (countsOf m) x + w) ≡ word (slotWords m s x slot) w) → vanIn (image m s) (countsOf m) x ≡ standingWords slot
+      words slot at = by slot (ap (word (image m s)) (sym (add-zero (vanAddress (countsOf m) x))) ∙ at 0 (omega arith)) (at 1 (omega arith)) (at 2 (omega arith)) (at 3 (omega arith))
         where
           same : {a b c d e f g h : ℕ} → a ≡ b → c ≡ d → e ≡ f → g ≡ h
               → _≡_ {A = VanWords} (record { state = a; road = c; offset = e; stamp = g }) (record { state = b; road = d; offset = f; stamp = h })
           same p q r t i = record { state = p i; road = q i; offset = r i; stamp = t i }
 
-          by : (slot : Slot) → word (image m s) (vanAt (countsOf m) x) ≡ word (slotWords m s x slot) 0 → word (image m s) (vanAt (countsOf m) x + 1) ≡ word (slotWords m s x slot) 1
-              → word (image m s) (vanAt (countsOf m) x + 2) ≡ word (slotWords m s x slot) 2 → word (image m s) (vanAt (countsOf m) x + 3) ≡ word (slotWords m s x slot) 3
-              → vanIn (image m s) (countsOf m) x ≡ wordsOf slot
+          by : (slot : Slot) → word (image m s) (vanAddress (countsOf m) x) ≡ word (slotWords m s x slot) 0 → word (image m s) (vanAddress (countsOf m) x + van·road) ≡ word (slotWords m s x slot) 1
+              → word (image m s) (vanAddress (countsOf m) x + van·offset) ≡ word (slotWords m s x slot) 2 → word (image m s) (vanAddress (countsOf m) x + van·stamp) ≡ word (slotWords m s x slot) 3
+              → vanIn (image m s) (countsOf m) x ≡ standingWords slot
           by absent p q r t = same p q r t
           by (present v) p q r t = same p q r t

@@ -12,7 +12,7 @@ use Rattle.fleet.specs.declared.Change.{Change}
 use Rattle.fleet.specs.Change.{Answer, refused, numberOf, inRange, step}
 use Rattle.image.specs.Image.{image}
 
-pub record Done (c : Change) (mem : List ℕ) (answer : Answer) (mem′ : List ℕ) : Type 0 where
+pub record ChangeDone (c : Change) (mem : List ℕ) (answer : Answer) (mem′ : List ℕ) : Type 0 where
   -- the words of a map and a fleet
   pub right : (m : Map) (s : State) → Sound m → Good m s → mem ≡ image m s → inRange c ≡ true → (answer ≡ step m s c .answer) × (mem′ ≡ image m (step m s c .state))
   -- any words

@@ -8,6 +8,8 @@ use counts::Counts;
 use counts::is_within;
 use fleet::Change;
 use head::opened_head;
+use layout::HeadRecord;
+use layout::VertexRecord;
 use places::counts_in;
 use places::vertex_at;
 use refusals::Verdict;
@@ -23,13 +25,14 @@ use van_lists::write_van;
 ghost use mathlib.Core.Path.{_≡_};
 ghost use mathlib.Core.Bool.{true, _&&_};
 ghost use Prim.Native.Nat.{_<_};
+ghost use Rattle.words.specs.Limits.{vans};
 ghost use Rattle.words.specs.Lists.{word};
 ghost use Rattle.answers.specs.Answered.{answered};
 ghost use Rattle.fleet.specs.Change.{vanInRange, deskInRange, inRange, vanOf};
 ghost use Rattle.refusals.specs.Verdict.{deskOf};
 ghost use Rattle.calls.specs.Outcome.{Changed};
-ghost use Rattle.changes.specs.Made.{switchedAlone, departed, arrived, made, counted, settled};
-ghost use Rattle.changes.specs.Done.{Done};
+ghost use Rattle.changes.specs.Made.{switchedAlone, vanDeparted, vanArrived, made, counted, settled};
+ghost use Rattle.changes.specs.Done.{ChangeDone};
 
 // Where `others`, the first of the other vans in the list of the vertex, is none, the vertex becomes active (`arrives`) or inactive.
 fn switch_alone(mem: &mut [u32], vertex: u32, others: u32, arrives: bool)
@@ -42,26 +45,26 @@ fn switch_alone(mem: &mut [u32], vertex: u32, others: u32, arrives: bool)
 
 // A free van for `vertex` stands as `words` say, and heads nowhere.
 fn depart(mem: &mut [u32], counts: Counts, van: u32, vertex: u32, words: VanWords)
-    ensures { λ _. ⌜ now (mem .exit) ≡ departed (now (mem .entry)) counts van vertex words ⌝ }
+    ensures { λ _. ⌜ now (mem .exit) ≡ vanDeparted (now (mem .entry)) counts van vertex words ⌝ }
 {
     take_out(mem, counts, van, vertex, words);
-    let others = word(mem, vertex_at(counts, vertex) + 4);
+    let others = word(mem, vertex_at(counts, vertex) + VertexRecord::VANS);
     switch_alone(mem, vertex, others, false);
 }
 
 // A van that heads nowhere stands as `words` say, a free van for `vertex`.
 fn arrive(mem: &mut [u32], counts: Counts, van: u32, vertex: u32, words: VanWords)
-    requires { ⌜ van < 1024 ⌝ }
-    ensures { λ _. ⌜ now (mem .exit) ≡ arrived (now (mem .entry)) counts van vertex words ⌝ }
+    requires { ⌜ van < vans ⌝ }
+    ensures { λ _. ⌜ now (mem .exit) ≡ vanArrived (now (mem .entry)) counts van vertex words ⌝ }
 {
-    let others = word(mem, vertex_at(counts, vertex) + 4);
+    let others = word(mem, vertex_at(counts, vertex) + VertexRecord::VANS);
     put_in(mem, counts, van, vertex, words);
     switch_alone(mem, vertex, others, true);
 }
 
 // The van, which stood as `old` says, stands as `new` says.
 fn make(mem: &mut [u32], counts: Counts, van: u32, old: VanWords, new: VanWords)
-    requires { ⌜ van < 1024 ⌝ }
+    requires { ⌜ van < vans ⌝ }
     ensures { λ _. ⌜ now (mem .exit) ≡ made (now (mem .entry)) counts van old new ⌝ }
 {
     if old.state == VanWords::FREE {
@@ -89,22 +92,22 @@ fn make(mem: &mut [u32], counts: Counts, van: u32, old: VanWords, new: VanWords)
 
 // The van stands as `new` says, under the next count as its stamp, unless the count is used up.
 fn settle(mem: &mut [u32], counts: Counts, van: u32, old: VanWords, new: VanWords) -> Reply
-    requires { ⌜ van < 1024 ⌝ }
+    requires { ⌜ van < vans ⌝ }
     ensures { λ r. ⌜ (r ≡ counted (word (now (mem .entry)) 5)) × (now (mem .exit) ≡ settled (now (mem .entry)) counts van old new) ⌝ }
 {
-    let count = word(mem, 5);
+    let count = word(mem, HeadRecord::COUNT);
     if count == VanWords::LAST_STAMP {
-        return Reply::CountUsedUp;
+        return Reply::CountFull;
     }
-    put(mem, 5, count + 1);
+    put(mem, HeadRecord::COUNT, count + 1);
     make(mem, counts, van, old, new.stamped(count + 1));
     Reply::Accepted(count + 1)
 }
 
 // The change on the words used of a memory, where its numbers are in range.
 pub fn change_in(mem: &mut [u32], change: Change) -> Reply
-    requires { ⌜ (vanOf change < 1024) × (deskOf change < 256) ⌝ }
-    ensures { λ r. ⌜ Done change (now (mem .entry)) (answered r) (now (mem .exit)) ⌝ }
+    requires { ⌜ (vanOf change < vans) × (deskOf change < 256) ⌝ }
+    ensures { λ r. ⌜ ChangeDone change (now (mem .entry)) (answered r) (now (mem .exit)) ⌝ }
 {
     let counts = counts_in(mem);
     let van = van_of(change);
@@ -158,11 +161,11 @@ pub fn change(mem: &mut [u32], change: Change) -> Reply
     ensures { λ r. ⌜ Changed change (now (mem .entry)) (answered r) (now (mem .exit)) ⌝ }
 {
     if !opened_head(mem) {
-        return Reply::Unopened;
+        return Reply::NotOpened;
     }
     if !in_range(change) {
         return Reply::OutOfRange;
     }
-    let used = wide(word(mem, 1));
+    let used = wide(word(mem, HeadRecord::USED));
     change_in(&mut mem[..used], change)
 }

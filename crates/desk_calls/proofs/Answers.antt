@@ -7,7 +7,7 @@ use native.Mathlib.Omega.{arith}
 use Rattle.fleet.specs.declared.Change.{Change}
 use Rattle.fleet.specs.Change.{Answer, refused, accepted, numberOf, valueOf}
 use Rattle.answers.specs.declared.Reply.{Reply}
-use Rattle.answers.specs.declared.Reply.the-variants.{Accepted, BadRecord, BadCounts, BadParts, BadRoads, TooSmall, Unopened, OutOfRange, NoVan, AlreadyPresent, NoRoad, OffsetAboveWeight, Held, NotHeldByDesk, StampDiffers, CountUsedUp}
+use Rattle.answers.specs.declared.Reply.the-variants.{Accepted, MapRecord, MapCounts, MapParts, MapRoads, TooFewWords, NotOpened, OutOfRange, NoSuchVan, VanPresent, NoRoad, OffsetAboveWeight, VanHeld, NotHeldByDesk, StampDiffers, CountFull}
 use Rattle.answers.specs.Answered.{answered}
 use Rattle.calls.specs.Outcome.{Changed}
 use Rattle.desk_lines.specs.declared.line.Line.the-variants.{Ok, No}
@@ -19,21 +19,21 @@ changed-as e h = rw e h
 -- a reply with the number 0 is an accepted one
 line-ok : (place : ℕ) (r : Reply) → numberOf (answered r) ≡ 0 → Ok place (valueOf (answered r)) ≡ changeLine place (answered r)
 line-ok place (Accepted value) e = refl
-line-ok place BadRecord e = absurd (omega arith)
-line-ok place BadCounts e = absurd (omega arith)
-line-ok place BadParts e = absurd (omega arith)
-line-ok place BadRoads e = absurd (omega arith)
-line-ok place TooSmall e = absurd (omega arith)
-line-ok place Unopened e = absurd (omega arith)
+line-ok place MapRecord e = absurd (omega arith)
+line-ok place MapCounts e = absurd (omega arith)
+line-ok place MapParts e = absurd (omega arith)
+line-ok place MapRoads e = absurd (omega arith)
+line-ok place TooFewWords e = absurd (omega arith)
+line-ok place NotOpened e = absurd (omega arith)
 line-ok place OutOfRange e = absurd (omega arith)
-line-ok place NoVan e = absurd (omega arith)
-line-ok place AlreadyPresent e = absurd (omega arith)
+line-ok place NoSuchVan e = absurd (omega arith)
+line-ok place VanPresent e = absurd (omega arith)
 line-ok place NoRoad e = absurd (omega arith)
 line-ok place OffsetAboveWeight e = absurd (omega arith)
-line-ok place Held e = absurd (omega arith)
+line-ok place VanHeld e = absurd (omega arith)
 line-ok place NotHeldByDesk e = absurd (omega arith)
 line-ok place StampDiffers e = absurd (omega arith)
-line-ok place CountUsedUp e = absurd (omega arith)
+line-ok place CountFull e = absurd (omega arith)
 
 line-no : (place : ℕ) (a : Answer) → (numberOf a ≡ 0 → ⊥) → No place (numberOf a) ≡ changeLine place a
 line-no place (refused n) h = refl

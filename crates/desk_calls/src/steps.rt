@@ -111,7 +111,7 @@ fn judge(input: &[u8], memory: &mut [u32; 16384], out: &mut [u8], map: usize) ->
     ensures { λ r. ⌜ Within r (length (now (input .entry))) (length (now (out .entry))) ⌝ }
 {
     match judge_map(&input[..map]) {
-        Judgement::Refused(number) => refuse(out, number),
+        Judgement::Refused(reply) => refuse(out, reply.number()),
         Judgement::Sound(counts, need) => {
             if MEMORY_WORDS < need {
                 return refuse(out, 5);

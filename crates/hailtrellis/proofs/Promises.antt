@@ -4,18 +4,20 @@
 use mathlib.Core.Path.{_≡_}
 use mathlib.Core.List.{List}
 use Prim.Native.Nat.{ℕ}
-use lib.ListN.{take}
-use Rattle.roads.specs.Map.{Map}
+use Rattle.words.specs.Lists.{word}
 use Rattle.fleet.specs.declared.Change.{Change}
+use Rattle.fleet.specs.Change.{inRange}
+use Rattle.fleet.specs.Question.{questionInRange}
 use Rattle.answers.specs.declared.Reply.{Reply}
 use Rattle.answers.specs.Answered.{answered}
 use Rattle.answers.proofs.Determined.{answered-same}
 use Rattle.calls.specs.Outcome.{Opened, Changed, Asked}
-use Rattle.calls.specs.Run.{Event, Run}
-use Rattle.calls.specs.Promise.{MemoryOfRun, RowsOfRun, BeyondOfRun, RefusedKeeps, QuestionOfRun, ClaimOfRun}
+use Rattle.calls.specs.Promise.{MemoryOfRun, RowsOfRun, BeyondOfRun, RefusedKeeps, QuestionOfRun, ClaimOfRun, StampsOfRun, DistanceOfRun, Determinate, DeterminateOfRun}
 use Rattle.calls.proofs.Run as run
 use Rattle.calls.proofs.Rows as rows
 use Rattle.calls.proofs.Kept as kept
+use Rattle.calls.proofs.Stamps as stamps
+use Rattle.calls.proofs.Ways as ways
 use Rattle.calls.proofs.Question as question
 use Rattle.calls.proofs.Claim as claim
 use Rattle.calls.proofs.Determined as determined
@@ -44,17 +46,30 @@ question-of-run = question.question-of-run
 pub claim-of-run : ClaimOfRun
 claim-of-run = claim.claim-of-run
 
--- Any two outcomes that a contract allows are equal: the reply of the code, and what the call leaves behind.
+-- Each stamp of a run is given once: of two accepted changes the later has the higher one.
+pub stamps-of-run : StampsOfRun
+stamps-of-run = stamps.stamps-of-run
+
+-- A van's distance is at most 4,096,000,000.
+pub distance-of-run : DistanceOfRun
+distance-of-run = ways.distance-of-run
+
+-- Any two outcomes that a contract allows are equal, the reply of the code and what the call leaves behind: of an opening always, and of a change and of
+-- a question where the memory has no opened head, a number is out of its range, or the memory shows a map and a fleet.
 module _ (r t : Reply) (k l : List ℕ) where
   pub open-determined : (bytes mem : List ℕ) (start : ℕ) → Opened bytes mem start (answered r) k → Opened bytes mem start (answered t) l → (r ≡ t) × (k ≡ l)
   open-determined bytes mem start x y =
       let same = determined.opening-determined bytes mem start (answered r) (answered t) k l x y in (answered-same r t (same .0), same .1)
 
-  module _ (m : Map) (start : ℕ) (es : List Event) (mem : List ℕ) (after : Run m start es mem) (lent : ℕ) where
-    pub change-determined : (c : Change) → Changed c (take lent mem) (answered r) k → Changed c (take lent mem) (answered t) l → (r ≡ t) × (k ≡ l)
-    change-determined c x y =
-        let same = determined.change-determined m start es mem after lent c (answered r) (answered t) k l x y in (answered-same r t (same .0), same .1)
+  pub change-determined : (c : Change) (mem : List ℕ) → Determinate mem (inRange c) → Changed c mem (answered r) k → Changed c mem (answered t) l → (r ≡ t) × (k ≡ l)
+  change-determined c mem known x y =
+      let same = determined.change-determined c mem known (answered r) (answered t) k l x y in (answered-same r t (same .0), same .1)
 
-    pub question-determined : (x n : ℕ) (out : List ℕ) → Asked (take lent mem) x n out (answered r) k → Asked (take lent mem) x n out (answered t) l → (r ≡ t) × (k ≡ l)
-    question-determined x n out u v =
-        let same = determined.question-determined m start es mem after lent x n out (answered r) (answered t) k l u v in (answered-same r t (same .0), same .1)
+  pub question-determined : (x n : ℕ) (mem out : List ℕ) → Determinate mem (questionInRange (word mem 2) x n)
+      → Asked mem x n out (answered r) k → Asked mem x n out (answered t) l → (r ≡ t) × (k ≡ l)
+  question-determined x n mem out known u v =
+      let same = determined.question-determined x n mem out known (answered r) (answered t) k l u v in (answered-same r t (same .0), same .1)
+
+-- Whatever part of its memory is lent, a run has no other memory than that.
+pub determinate-of-run : DeterminateOfRun
+determinate-of-run = determined.determinate-of-run

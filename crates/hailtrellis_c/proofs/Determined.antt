@@ -1,15 +1,15 @@
--- Two replies that the contracts of the C functions allow are equal, and so is what the calls leave behind.
+-- Two replies that the contracts of the C functions allow are equal, and so is what the calls leave behind, where the memory is not forged.
 -- Assumes nothing.
 use mathlib.Core.Path.{_≡_, sym, _∙_, ap}
 use mathlib.Core.List.{List}
 use Prim.Native.Nat.{ℕ}
-use lib.ListN.{take}
-use Rattle.roads.specs.Map.{Map}
+use Rattle.words.specs.Lists.{word}
 use Rattle.fleet.specs.declared.Change.{Change}
-use Rattle.fleet.specs.Change.{Answer}
+use Rattle.fleet.specs.Change.{Answer, inRange}
+use Rattle.fleet.specs.Question.{questionInRange}
 use Rattle.calls.specs.Outcome.{Opened, Changed, Asked}
-use Rattle.calls.specs.Run.{Event, Run}
-use Rattle.calls.proofs.Determined.{opening-determined, change-determined, question-determined}
+use Rattle.calls.specs.Promise.{Determinate}
+use Rattle.calls.proofs.Determined as answers
 use Rattle.hailtrellis_c.specs.declared.HailtrellisReply.{HailtrellisReply}
 use Rattle.hailtrellis_c.specs.Replied.{replyOf, Replied}
 
@@ -21,11 +21,11 @@ replies-agree p q k l agree r t x y =
 
 module _ (r t : HailtrellisReply) (k l : List ℕ) where
   pub open-determined : (bytes mem : List ℕ) (start : ℕ) → Replied (λ a. Opened bytes mem start a k) r → Replied (λ a. Opened bytes mem start a l) t → (r ≡ t) × (k ≡ l)
-  open-determined bytes mem start = replies-agree _ _ k l (λ a b x y. opening-determined bytes mem start a b k l x y) r t
+  open-determined bytes mem start = replies-agree _ _ k l (λ a b x y. answers.opening-determined bytes mem start a b k l x y) r t
 
-  module _ (m : Map) (start : ℕ) (es : List Event) (mem : List ℕ) (run : Run m start es mem) (lent : ℕ) where
-    pub changed-determined : (c : Change) → Replied (λ a. Changed c (take lent mem) a k) r → Replied (λ a. Changed c (take lent mem) a l) t → (r ≡ t) × (k ≡ l)
-    changed-determined c = replies-agree _ _ k l (λ a b x y. change-determined m start es mem run lent c a b k l x y) r t
+  pub change-determined : (c : Change) (mem : List ℕ) → Determinate mem (inRange c) → Replied (λ a. Changed c mem a k) r → Replied (λ a. Changed c mem a l) t → (r ≡ t) × (k ≡ l)
+  change-determined c mem known = replies-agree _ _ k l (λ a b x y. answers.change-determined c mem known a b k l x y) r t
 
-    pub asked-determined : (x n : ℕ) (out : List ℕ) → Replied (λ a. Asked (take lent mem) x n out a k) r → Replied (λ a. Asked (take lent mem) x n out a l) t → (r ≡ t) × (k ≡ l)
-    asked-determined x n out = replies-agree _ _ k l (λ a b u v. question-determined m start es mem run lent x n out a b k l u v) r t
+  pub question-determined : (x n : ℕ) (mem out : List ℕ) → Determinate mem (questionInRange (word mem 2) x n)
+      → Replied (λ a. Asked mem x n out a k) r → Replied (λ a. Asked mem x n out a l) t → (r ≡ t) × (k ≡ l)
+  question-determined x n mem out known = replies-agree _ _ k l (λ a b u v. answers.question-determined x n mem out known a b k l u v) r t

@@ -15,10 +15,9 @@ pub struct HailtrellisReply {
 fn replied(reply: Reply) -> HailtrellisReply
     ensures { λ r. ⌜ r ≡ replyOf (answered reply) ⌝ }
 {
-    HailtrellisReply {
-        code: reply.number(),
-        value: reply.value(),
-    }
+    let code = reply.number();
+    let value = reply.value();
+    HailtrellisReply { code, value }
 }
 
 #[no_mangle]

@@ -8,11 +8,12 @@ use native.Mathlib.Decide.{decLt}
 use native.Mathlib.Omega.{arith}
 use lib.ListN.{length, getD, drop, length-append, List·getD-append}
 use lib.Seq.{getD-append-add, ext-getD}
-use Rattle.words.specs.Limits.{vans}
+use Rattle.words.specs.Limits.{headWords, vans}
 use Rattle.words.specs.Lists.{upTo, word, placeIn, link, gather}
 use Rattle.words.proofs.Lists.{countFrom-length, sum-same, gather-number}
 use Rattle.words.proofs.Sums.{InRecord, in-record, InSum, in-sum}
 use Rattle.words.proofs.Places.{entry-in, place-of-entry}
+use Rattle.layout.specs.Layout.{part·words, vertex·words, road·words, van·words, row·words, partAt, verticesFrom, roadsFrom}
 use Rattle.roads.specs.Map.{Road, Map, partCount, roadCount, noRoad}
 use Rattle.roads.specs.Dist.{dist}
 use Rattle.parts.specs.Size.{rowVertices, sizeOf, tableWordsBelow, tableWords, rowsBelow, rowCount, need}
@@ -25,13 +26,13 @@ use Rattle.image.specs.Records.{rowVertex, roadRecord, vanWords}
 use Rattle.image.proofs.Length.{roads-length, head-length, parts-length, vertices-length, image-length, van-length}
 use Rattle.image.proofs.Words.{before-length, distance-word, row-word}
 
--- word w of record x, where records of eight words stand for the numbers below n
-record-word : (f : ℕ → List ℕ) (sized : (x : ℕ) → length (f x) ≡ 8) (n x w : ℕ) → x < n → w < 8
-    → (8 * x + w < length (gather f (upTo n))) × (word (gather f (upTo n)) (8 * x + w) ≡ word (f x) w)
-record-word f sized n x w hx hw =
+-- word w of record x, where records of `size` words stand for the numbers below n
+record-word : (f : ℕ → List ℕ) (size : ℕ) (sized : (x : ℕ) → length (f x) ≡ size) (n x w : ℕ) → x < n → w < size
+    → (size * x + w < length (gather f (upTo n))) × (word (gather f (upTo n)) (size * x + w) ≡ word (f x) w)
+record-word f size sized n x w hx hw =
     subst (λ (k : ℕ). (k + w < length (gather f (upTo n))) × (word (gather f (upTo n)) (k + w) ≡ word (f x) w))
-    (sum-same 8 (upTo x) ∙ ap (λ (k : ℕ). 8 * k) (countFrom-length 0 x))
-    (gather-number f (λ y. 8) sized n x w hx hw)
+    (sum-same size (upTo x) ∙ ap (λ (k : ℕ). size * k) (countFrom-length 0 x))
+    (gather-number f (λ y. size) sized n x w hx hw)
 
 -- word w of record k, where records of n words stand one after the other, each made of an entry, its number and the entries after it
 module _ {A : Type 0} (n : ℕ) (one : ℕ → A → List A → List ℕ) (every : ℕ → List A → List ℕ) (next : (i : ℕ) (x : A) (xs : List A) → every i (x ∷ xs) ≡ one i x xs ++ every (suc i) xs)
@@ -52,41 +53,41 @@ module _ {A : Type 0} (n : ℕ) (one : ℕ → A → List A → List ℕ) (every
       ∙ ap (λ (j : ℕ). word (one j (getD xs k d) (drop (suc k) xs)) w) over
 
 -- word w of road r, in roads of which the first has number i
-roads-word : (i : ℕ) (rs : List Road) (r w : ℕ) → r < length rs → w < 4
-    → word (roadRecords i rs) (4 * r + w)
+roads-word : (i : ℕ) (rs : List Road) (r w : ℕ) → r < length rs → w < road·words
+    → word (roadRecords i rs) (road·words * r + w)
     ≡ word (getD rs r noRoad .from ∷ getD rs r noRoad .to ∷ getD rs r noRoad .weight ∷ link (endsAt (getD rs r noRoad .to)) (suc (i + r)) (drop (suc r) rs) ∷ []) w
 unfolding roadRecords
-roads-word = laid-word 4 (λ i x rest. x .from ∷ x .to ∷ x .weight ∷ link (endsAt (x .to)) (suc i) rest ∷ []) roadRecords (λ i x rest. refl) (λ i x rest. refl) noRoad
+roads-word = laid-word road·words (λ i x rest. x .from ∷ x .to ∷ x .weight ∷ link (endsAt (x .to)) (suc i) rest ∷ []) roadRecords (λ i x rest. refl) (λ i x rest. refl) noRoad
 
 -- word w of van k, in slots of which the first is that of van i
-vans-word : (m : Map) (i : ℕ) (slots : List Slot) (k w : ℕ) → k < length slots → w < 8
-    → word (vanRecords m i slots) (8 * k + w) ≡ word (vanRecord (getD slots k absent) (nextVan m (getD slots k absent) (suc (i + k)) (drop (suc k) slots))) w
+vans-word : (m : Map) (i : ℕ) (slots : List Slot) (k w : ℕ) → k < length slots → w < van·words
+    → word (vanRecords m i slots) (van·words * k + w) ≡ word (vanRecord (getD slots k absent) (nextVan m (getD slots k absent) (suc (i + k)) (drop (suc k) slots))) w
 unfolding vanRecords
-vans-word m = laid-word 8 (λ i x rest. vanRecord x (nextVan m x (suc i) rest)) (vanRecords m) (λ i x rest. refl) (λ i x rest. van-length x (nextVan m x (suc i) rest)) absent
+vans-word m = laid-word van·words (λ i x rest. vanRecord x (nextVan m x (suc i) rest)) (vanRecords m) (λ i x rest. refl) (λ i x rest. van-length x (nextVan m x (suc i) rest)) absent
 
 -- The sections, one after the other.
 module _ (m : Map) where
-  pub vertices-start : verticesAt m ≡ 64 + 8 * partCount m
+  pub vertices-start : verticesAt m ≡ verticesFrom (partCount m)
   unfolding verticesAt
   vertices-start = refl
 
-  pub roads-start : roadsAt m ≡ 64 + 8 * partCount m + 8 * m .vertices
-  unfolding roadsAt verticesAt
+  pub roads-start : roadsAt m ≡ roadsFrom (partCount m) (m .vertices)
+  unfolding roadsAt
   roads-start = refl
 
-  pub vans-start : vansAt m ≡ roadsAt m + 4 * roadCount m
-  unfolding vansAt
+  pub vans-start : vansAt m ≡ roadsAt m + road·words * roadCount m
+  unfolding vansAt roadsAt
   vans-start = refl
 
-  pub tables-start : tablesAt m ≡ vansAt m + 8 * vans
-  unfolding tablesAt
+  pub tables-start : tablesAt m ≡ vansAt m + van·words * vans
+  unfolding tablesAt vansAt
   tables-start = refl
 
   pub rows-start : rowsAt m ≡ tablesAt m + tableWords m
   unfolding rowsAt
   rows-start = refl
 
-  pub rows-end : rowsAt m + 4 * rowCount m ≡ need m
+  pub rows-end : rowsAt m + row·words * rowCount m ≡ need m
   unfolding rowsAt tablesAt vansAt roadsAt verticesAt need
   rows-end = omega arith
 
@@ -140,63 +141,63 @@ module _ (m : Map) (s : State) (slots : length (s .vans) ≡ vans) where
   from-vertices i h =
       from-roads i (omega (arith, vertices-start m, roads-start m)) ∙ List·getD-append to-vertices (gather (vertexRecord m s) (upTo (m .vertices))) 0 i (omega (arith, to-vertices-length))
 
-  pub head-word : (i : ℕ) → i < 64 → word (image m s) i ≡ word (headPart m s) i
+  pub head-word : (i : ℕ) → i < headWords → word (image m s) i ≡ word (headPart m s) i
   unfolding to-vertices
   head-word i h =
       from-vertices i (omega (arith, vertices-start m)) ∙ List·getD-append (headPart m s) (gather (partRecord m) (upTo (partCount m))) 0 i (omega (arith, head-length m s))
 
-  pub part-word : (p w : ℕ) → p < partCount m → w < 8 → word (image m s) (64 + 8 * p + w) ≡ word (partRecord m p) w
+  pub part-word : (p w : ℕ) → p < partCount m → w < part·words → word (image m s) (partAt p + w) ≡ word (partRecord m p) w
   unfolding to-vertices partRecord
   part-word p w hp hw =
-      let found = record-word (partRecord m) (λ x. eight x) (partCount m) p w hp hw in
-      from-vertices (64 + 8 * p + w) (omega (arith, vertices-start m))
+      let found = record-word (partRecord m) part·words (λ x. sized x) (partCount m) p w hp hw in
+      from-vertices (partAt p + w) (omega (arith, vertices-start m))
       ∙ ap (word to-vertices) (at (head-length m s))
-      ∙ getD-append-add (headPart m s) (gather (partRecord m) (upTo (partCount m))) (8 * p + w) 0
+      ∙ getD-append-add (headPart m s) (gather (partRecord m) (upTo (partCount m))) (part·words * p + w) 0
       ∙ found .1
     where
-      eight : (x : ℕ) → length (partRecord m x) ≡ 8
-      eight x = refl
+      sized : (x : ℕ) → length (partRecord m x) ≡ part·words
+      sized x = refl
 
-      at : length (headPart m s) ≡ 64 → 64 + 8 * p + w ≡ length (headPart m s) + (8 * p + w)
+      at : length (headPart m s) ≡ headWords → partAt p + w ≡ length (headPart m s) + (part·words * p + w)
       at e = omega arith
 
-  pub vertex-word : (v w : ℕ) → v < m .vertices → w < 8 → word (image m s) (verticesAt m + 8 * v + w) ≡ word (vertexRecord m s v) w
+  pub vertex-word : (v w : ℕ) → v < m .vertices → w < vertex·words → word (image m s) (verticesAt m + vertex·words * v + w) ≡ word (vertexRecord m s v) w
   unfolding to-roads vertexRecord
   vertex-word v w hv hw =
-      let found = record-word (vertexRecord m s) (λ x. eight x) (m .vertices) v w hv hw in
-      from-roads (verticesAt m + 8 * v + w) (omega (arith, vertices-start m, roads-start m))
+      let found = record-word (vertexRecord m s) vertex·words (λ x. sized x) (m .vertices) v w hv hw in
+      from-roads (verticesAt m + vertex·words * v + w) (omega (arith, vertices-start m, roads-start m))
       ∙ ap (word to-roads) (at to-vertices-length)
-      ∙ getD-append-add to-vertices (gather (vertexRecord m s) (upTo (m .vertices))) (8 * v + w) 0
+      ∙ getD-append-add to-vertices (gather (vertexRecord m s) (upTo (m .vertices))) (vertex·words * v + w) 0
       ∙ found .1
     where
-      eight : (x : ℕ) → length (vertexRecord m s x) ≡ 8
-      eight x = refl
+      sized : (x : ℕ) → length (vertexRecord m s x) ≡ vertex·words
+      sized x = refl
 
-      at : length to-vertices ≡ verticesAt m → verticesAt m + 8 * v + w ≡ length to-vertices + (8 * v + w)
+      at : length to-vertices ≡ verticesAt m → verticesAt m + vertex·words * v + w ≡ length to-vertices + (vertex·words * v + w)
       at e = omega arith
 
-  pub road-word : (r w : ℕ) → r < roadCount m → w < 4 → word (image m s) (roadsAt m + 4 * r + w) ≡ word (roadRecord m r) w
+  pub road-word : (r w : ℕ) → r < roadCount m → w < road·words → word (image m s) (roadsAt m + road·words * r + w) ≡ word (roadRecord m r) w
   unfolding to-vans roadRecord
   road-word r w hr hw =
-      from-vans (roadsAt m + 4 * r + w) (omega (arith, vans-start m))
+      from-vans (roadsAt m + road·words * r + w) (omega (arith, vans-start m))
       ∙ ap (word to-vans) (at to-roads-length)
-      ∙ getD-append-add to-roads (roadRecords 0 (m .roads)) (4 * r + w) 0
+      ∙ getD-append-add to-roads (roadRecords 0 (m .roads)) (road·words * r + w) 0
       ∙ roads-word 0 (m .roads) r w hr hw
       ∙ ap (λ (k : ℕ). word (getD (m .roads) r noRoad .from ∷ getD (m .roads) r noRoad .to ∷ getD (m .roads) r noRoad .weight ∷ link (endsAt (getD (m .roads) r noRoad .to)) (suc k) (drop (suc r) (m .roads)) ∷ []) w) (zero-add r)
     where
-      at : length to-roads ≡ roadsAt m → roadsAt m + 4 * r + w ≡ length to-roads + (4 * r + w)
+      at : length to-roads ≡ roadsAt m → roadsAt m + road·words * r + w ≡ length to-roads + (road·words * r + w)
       at e = omega arith
 
-  pub van-word : (i w : ℕ) → i < vans → w < 8 → word (image m s) (vansAt m + 8 * i + w) ≡ word (vanWords m s i) w
+  pub van-word : (i w : ℕ) → i < vans → w < van·words → word (image m s) (vansAt m + van·words * i + w) ≡ word (vanWords m s i) w
   unfolding beforeTables vanWords to-vans to-roads to-vertices
   van-word i w hi hw =
-      from-tables (vansAt m + 8 * i + w) (omega (arith, tables-start m))
+      from-tables (vansAt m + van·words * i + w) (omega (arith, tables-start m))
       ∙ ap (word (beforeTables m s)) (at to-vans-length)
-      ∙ getD-append-add to-vans (vanRecords m 0 (s .vans)) (8 * i + w) 0
+      ∙ getD-append-add to-vans (vanRecords m 0 (s .vans)) (van·words * i + w) 0
       ∙ vans-word m 0 (s .vans) i w (omega (arith, slots)) hw
       ∙ ap (λ (n : ℕ). word (vanRecord (getD (s .vans) i absent) (nextVan m (getD (s .vans) i absent) (suc n) (drop (suc i) (s .vans)))) w) (zero-add i)
     where
-      at : length to-vans ≡ vansAt m → vansAt m + 8 * i + w ≡ length to-vans + (8 * i + w)
+      at : length to-vans ≡ vansAt m → vansAt m + van·words * i + w ≡ length to-vans + (van·words * i + w)
       at e = omega arith
 
   -- the place of row i's vertex is i
@@ -214,22 +215,22 @@ module _ (m : Map) (s : State) (slots : length (s .vans) ≡ vans) where
       at : {a b : ℕ} → a ≡ i → b ≡ j → tableOf m p + (sizeOf m p * i + j) ≡ tableOf m p + a * sizeOf m p + b
       at {a} {b} e f = omega (arith, ap (λ (k : ℕ). k * sizeOf m p) e, mul-comm i (sizeOf m p))
 
-  pub shown-word : (p i w : ℕ) → p < partCount m → i < sizeOf m p → w < 4
-      → word (image m s) (firstRowOf m p + 4 * i + w)
+  pub shown-word : (p i w : ℕ) → p < partCount m → i < sizeOf m p → w < row·words
+      → word (image m s) (firstRowOf m p + row·words * i + w)
       ≡ word (rowRecord (rowOf m (active m s) p (rowVertex m p i)) (rowVertex m p i) (partBelow m p (rowVertex m p i)) (rowBelow m p (rowVertex m p i))) w
   unfolding rowAt sizeOf
   shown-word p i w hp hi hw =
-      ap (λ (k : ℕ). word (image m s) (firstRowOf m p + 4 * k + w)) (sym (place-of p i hi)) ∙ row-word m s slots p hp (rowVertex m p i) (entry-in (rowVertices m p) i 0 hi) w hw .1
+      ap (λ (k : ℕ). word (image m s) (firstRowOf m p + row·words * k + w)) (sym (place-of p i hi)) ∙ row-word m s slots p hp (rowVertex m p i) (entry-in (rowVertices m p) i 0 hi) w hw .1
 
 -- Every address below the need is in one section.
 pub data Address (m : Map) (a : ℕ) : Type 0 where
-  in-head : a < 64 → Address m a
-  in-parts : (p w : ℕ) → p < partCount m → w < 8 → a ≡ 64 + 8 * p + w → Address m a
-  in-vertices : (v w : ℕ) → v < m .vertices → w < 8 → a ≡ verticesAt m + 8 * v + w → Address m a
-  in-roads : (r w : ℕ) → r < roadCount m → w < 4 → a ≡ roadsAt m + 4 * r + w → Address m a
-  in-vans : (i w : ℕ) → i < vans → w < 8 → a ≡ vansAt m + 8 * i + w → Address m a
+  in-head : a < headWords → Address m a
+  in-parts : (p w : ℕ) → p < partCount m → w < part·words → a ≡ partAt p + w → Address m a
+  in-vertices : (v w : ℕ) → v < m .vertices → w < vertex·words → a ≡ verticesAt m + vertex·words * v + w → Address m a
+  in-roads : (r w : ℕ) → r < roadCount m → w < road·words → a ≡ roadsAt m + road·words * r + w → Address m a
+  in-vans : (i w : ℕ) → i < vans → w < van·words → a ≡ vansAt m + van·words * i + w → Address m a
   in-tables : (p i j : ℕ) → p < partCount m → i < sizeOf m p → j < sizeOf m p → a ≡ tableOf m p + (sizeOf m p * i + j) → Address m a
-  in-rows : (p i w : ℕ) → p < partCount m → i < sizeOf m p → w < 4 → a ≡ firstRowOf m p + 4 * i + w → Address m a
+  in-rows : (p i w : ℕ) → p < partCount m → i < sizeOf m p → w < row·words → a ≡ firstRowOf m p + row·words * i + w → Address m a
 
 module _ (m : Map) (a : ℕ) where
   table-address : tablesAt m ≤ a → a < rowsAt m → Address m a
@@ -243,29 +244,29 @@ module _ (m : Map) (a : ℕ) where
   row-address : rowsAt m ≤ a → a < need m → Address m a
   unfolding rowCount firstRowOf rowsBelow
   row-address low high =
-      let n : InRecord 4 (rowCount m) (a - rowsAt m) = in-record 4 (rowCount m) (a - rowsAt m) (omega (arith, rows-end m)) in
+      let n : InRecord row·words (rowCount m) (a - rowsAt m) = in-record row·words (rowCount m) (a - rowsAt m) (omega (arith, rows-end m)) in
       let t : InSum (sizeOf m) (partCount m) (n .number) = in-sum (sizeOf m) (partCount m) (n .number) (n .is-record) in
       in-rows (t .part) (t .at) (n .at) (t .is-part) (t .is-within) (n .is-within) (omega (arith, n .is-sum, t .is-sum))
 
   pub address : a < need m → Address m a
-  address high = by₁ (decLt a 64) (decLt a (verticesAt m)) (decLt a (roadsAt m)) (decLt a (vansAt m)) (decLt a (tablesAt m)) (decLt a (rowsAt m))
+  address high = by₁ (decLt a headWords) (decLt a (verticesAt m)) (decLt a (roadsAt m)) (decLt a (vansAt m)) (decLt a (tablesAt m)) (decLt a (rowsAt m))
     where
       record-at : (n start count : ℕ) → start ≤ a → a < start + n * count → InRecord n count (a - start)
       record-at n start count low below = in-record n count (a - start) (omega arith)
 
-      by₁ : Dec (a < 64) → Dec (a < verticesAt m) → Dec (a < roadsAt m) → Dec (a < vansAt m) → Dec (a < tablesAt m) → Dec (a < rowsAt m) → Address m a
+      by₁ : Dec (a < headWords) → Dec (a < verticesAt m) → Dec (a < roadsAt m) → Dec (a < vansAt m) → Dec (a < tablesAt m) → Dec (a < rowsAt m) → Address m a
       by₁ (yes h) v r n t w = in-head h
       by₁ (no l) (yes h) r n t w =
-          let e : InRecord 8 (partCount m) (a - 64) = record-at 8 64 (partCount m) (omega (arith, l)) (omega (arith, vertices-start m)) in
+          let e : InRecord part·words (partCount m) (a - headWords) = record-at part·words headWords (partCount m) (omega (arith, l)) (omega (arith, vertices-start m)) in
           in-parts (e .number) (e .at) (e .is-record) (e .is-within) (omega (arith, e .is-sum, l))
       by₁ (no l) (no k) (yes h) n t w =
-          let e : InRecord 8 (m .vertices) (a - verticesAt m) = record-at 8 (verticesAt m) (m .vertices) (omega (arith, k)) (omega (arith, vertices-start m, roads-start m)) in
+          let e : InRecord vertex·words (m .vertices) (a - verticesAt m) = record-at vertex·words (verticesAt m) (m .vertices) (omega (arith, k)) (omega (arith, vertices-start m, roads-start m)) in
           in-vertices (e .number) (e .at) (e .is-record) (e .is-within) (omega (arith, e .is-sum, k))
       by₁ (no l) (no k) (no j) (yes h) t w =
-          let e : InRecord 4 (roadCount m) (a - roadsAt m) = record-at 4 (roadsAt m) (roadCount m) (omega (arith, j)) (omega (arith, vans-start m)) in
+          let e : InRecord road·words (roadCount m) (a - roadsAt m) = record-at road·words (roadsAt m) (roadCount m) (omega (arith, j)) (omega (arith, vans-start m)) in
           in-roads (e .number) (e .at) (e .is-record) (e .is-within) (omega (arith, e .is-sum, j))
       by₁ (no l) (no k) (no j) (no i) (yes h) w =
-          let e : InRecord 8 vans (a - vansAt m) = record-at 8 (vansAt m) vans (omega (arith, i)) (omega (arith, tables-start m)) in
+          let e : InRecord van·words vans (a - vansAt m) = record-at van·words (vansAt m) vans (omega (arith, i)) (omega (arith, tables-start m)) in
           in-vans (e .number) (e .at) (e .is-record) (e .is-within) (omega (arith, e .is-sum, i))
       by₁ (no l) (no k) (no j) (no i) (no g) (yes h) = table-address (omega (arith, g)) h
       by₁ (no l) (no k) (no j) (no i) (no g) (no f) = row-address (omega (arith, f)) high

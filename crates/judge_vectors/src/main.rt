@@ -23,9 +23,9 @@ fn write_judgement(judgement: Judgement) {
             write_number(counts.parts as u64);
             write_number(need as u64);
         }
-        Judgement::Refused(n) => {
+        Judgement::Refused(reply) => {
             io::write_all(STDOUT_FILENO, b" refused");
-            write_number(n as u64);
+            write_number(reply.number() as u64);
         }
     }
     io::write_all(STDOUT_FILENO, b"\n");

@@ -10,7 +10,7 @@ use native.Mathlib.Omega.{arith}
 use lib.ListN.{length}
 use lib.Dec.{leb, ltb, eqb}
 use borrow.Author.Tests.{eqb-true, ltb-true, lt-ltb, le-ltb, le-leb}
-use Rattle.words.specs.Limits.{mostBorders, NONE}
+use Rattle.words.specs.Limits.{mostParts, mostBorders, NONE}
 use Rattle.words.specs.Lists.{upTo, word, sum, any, all, keep}
 use Rattle.words.proofs.Tests.{both-true, both-pass}
 use Rattle.words.proofs.Lists.{countFrom-below, any-by, any-says}
@@ -28,7 +28,7 @@ use Rattle.map_bytes.proofs.Each.{each-all}
 use Rattle.map_parts.specs.Tally.{Tallied}
 use Rattle.map_parts.proofs.Fits.{homes-are}
 use Rattle.map_borders.specs.Lift.{meet, roadMeet, outside, Lifted}
-use Rattle.map_borders.specs.Mark.{steps, Counted, fewAt}
+use Rattle.map_borders.specs.Mark.{steps, BordersCounted, fewAt}
 use Rattle.map_borders.specs.Sizes.{Given, Lifts, Sizes}
 use Rattle.map_borders.proofs.Meet.{Common, common-swap, common-is}
 use Rattle.map_borders.proofs.Steps.{Once, steps-once}
@@ -140,11 +140,11 @@ module _ {m : Map} {parents leaves body : List ℕ} {vertices roads parts : ℕ}
         by v c hv hc false e = refl
 
   module _ (lifts : List ℕ) (is : Lifts m lifts) where
-    border-is : (p v : ℕ) → v < vertices → cond (border p v) 1 0 ≡ steps parents 512 (word lifts v) (word leaves v) p
+    border-is : (p v : ℕ) → v < vertices → cond (border p v) 1 0 ≡ steps parents mostParts (word lifts v) (word leaves v) p
     unfolding border
     border-is p v hv =
-        by (border p v) refl (steps-once m falls parents same (word lifts v) p 512 (leafOf m v) (omega (arith, in-range, given .shows .count, given .fewParts)) in-range)
-        ∙ ap (λ (leaf : ℕ). steps parents 512 (word lifts v) leaf p) (given .shows .leaf v hv)
+        by (border p v) refl (steps-once m falls parents same (word lifts v) p mostParts (leafOf m v) (omega (arith, in-range, given .shows .count, given .fewParts)) in-range)
+        ∙ ap (λ (leaf : ℕ). steps parents mostParts (word lifts v) leaf p) (given .shows .leaf v hv)
       where
         in-range : leafOf m v < partCount m
         in-range = leaf-part v hv
@@ -172,13 +172,13 @@ module _ {m : Map} {parents leaves body : List ℕ} {vertices roads parts : ℕ}
             let yes = split d hd ∙ both-pass (holds m d v) (ltb (word lifts v) d) (inside d v hv (s .above)) (lt-ltb _ d (s .high)) in
             absurd (true≢false (sym (any-by (λ c. boundary m c v) (children m p) d child yes) ∙ e))
 
-    borders-counted : (p : ℕ) → length (borders m p) ≡ sum (map (λ v. steps parents 512 (word lifts v) (word leaves v) p) (upTo vertices))
+    borders-counted : (p : ℕ) → length (borders m p) ≡ sum (map (λ v. steps parents mostParts (word lifts v) (word leaves v) p) (upTo vertices))
     unfolding borders border
     borders-counted p =
         ap (λ (n : ℕ). length (keep (border p) (upTo n))) (given .shows .vertexCount)
-        ∙ keep-sum (border p) (λ v. steps parents 512 (word lifts v) (word leaves v) p) 0 vertices (λ v low hv. let small : v < vertices = omega arith in border-is p v small)
+        ∙ keep-sum (border p) (λ v. steps parents mostParts (word lifts v) (word leaves v) p) 0 vertices (λ v low hv. let small : v < vertices = omega arith in border-is p v small)
 
-    module _ (homes sizes : List ℕ) (housed : Tallied leaves vertices homes) (counted : Counted parents leaves lifts vertices homes sizes) where
+    module _ (homes sizes : List ℕ) (housed : Tallied leaves vertices homes) (counted : BordersCounted parents leaves lifts vertices homes sizes) where
       both-are : (p : ℕ) → p < parts → word sizes p ≡ length (verticesOf m p) + length (borders m p)
       both-are p h =
           counted .each p (omega (arith, given .fewParts))

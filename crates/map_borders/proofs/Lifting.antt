@@ -3,7 +3,7 @@
 use mathlib.Core.Path.{_≡_, refl, sym, ap, ap₂, _∙_}
 use mathlib.Core.Bool.{Bool, true, false, _&&_, _||_, cond}
 use mathlib.Core.List.{List}
-use Prim.Native.Nat.{ℕ, suc, _+_, _*_, _-_, _<_, _≤_}
+use Prim.Native.Nat.{ℕ, suc, _+_, _*_, _-_, _<_, _≤_, min}
 use native.Mathlib.Decide.{ℕ-discrete}
 use native.Mathlib.Omega.{arith}
 use lib.ListN.{length, getD, set, length-set}
@@ -12,50 +12,46 @@ use lib.Dec.{ltb, eqb}
 use borrow.Author.Tests.{ltb-true, ltb-false, lt-ltb, le-ltb, eq-eqb, ne-eqb}
 use Rattle.words.specs.Limits.{mostVertices, NONE}
 use Rattle.words.specs.Lists.{countFrom, word, any}
+use Rattle.cells.specs.Lowered.{lowered}
 use Rattle.maps.specs.Bytes.{field}
-use Rattle.map_borders.specs.Lift.{lesserOf, meet, lowered, roadMeet, lifted, outside, Lifted}
+use Rattle.map_borders.specs.Lift.{meet, roadMeet, lifted, outside, Lifted}
 
 pub lowered-length : (lifts : List ℕ) (v x : ℕ) → length (lowered lifts v x) ≡ length lifts
-unfolding lowered
 lowered-length lifts v x = length-set lifts v _
 
 pub lifted-length : (parents leaves body : List ℕ) (i : ℕ) (lifts : List ℕ) → length (lifted parents leaves body i lifts) ≡ length lifts
 unfolding lifted
-lifted-length parents leaves body i lifts = lowered-length _ _ _ ∙ lowered-length lifts _ _
+lifted-length parents leaves body i lifts = simp length-set
 
 -- what `lift_road` has read and done
-pub lifted-by : (parents leaves body : List ℕ) (i : ℕ) (lifts : List ℕ) {from to a b x : ℕ} {first second : List ℕ}
-    → from ≡ field body (8 * i) 2 → to ≡ field body (8 * i + 2) 2 → a ≡ word leaves from → b ≡ word leaves to → x ≡ meet parents 1024 a b
-    → first ≡ lowered lifts from x → second ≡ lowered first to x → second ≡ lifted parents leaves body i lifts
+pub lifted-by : (parents leaves body : List ℕ) (i : ℕ) (lifts : List ℕ) {from to a b x u v : ℕ} {first second : List ℕ}
+    → from ≡ field body (8 * i) 2 → to ≡ field body (8 * i + 2) 2 → a ≡ word leaves from → b ≡ word leaves to → x ≡ meet parents 1024 a b → u ≡ from → v ≡ to
+    → first ≡ lowered lifts u x → second ≡ lowered first v x → second ≡ lifted parents leaves body i lifts
 unfolding lifted roadMeet
-lifted-by parents leaves body i lifts {x = x} isFrom isTo isA isB isX isFirst isSecond =
+lifted-by parents leaves body i lifts {x = x} isFrom isTo isA isB isX isU isV isFirst isSecond =
     let whole : x ≡ roadMeet parents leaves body i = isX ∙ λ j. meet parents 1024 ((isA ∙ ap (word leaves) isFrom) j) ((isB ∙ ap (word leaves) isTo) j) in
-    isSecond ∙ (λ j. lowered (isFirst j) (isTo j) (whole j)) ∙ λ j. lowered (lowered lifts (isFrom j) (whole j)) (field body (8 * i + 2) 2) (roadMeet parents leaves body i)
+    isSecond ∙ (λ j. lowered (isFirst j) ((isV ∙ isTo) j) (whole j)) ∙ λ j. lowered (lowered lifts ((isU ∙ isFrom) j) (whole j)) (field body (8 * i + 2) 2) (roadMeet parents leaves body i)
 
 -- below c after: below c before, or the new one is
-lesser-below : (x y c : ℕ) → ltb (lesserOf x y) c ≡ (ltb x c || ltb y c)
-unfolding lesserOf
-lesser-below x y c = by (ltb x y) refl (ltb x c) refl (ltb y c) refl
+lesser-below : (x y c : ℕ) → ltb (min y x) c ≡ (ltb x c || ltb y c)
+lesser-below x y c = by (ltb x c) refl (ltb y c) refl
   where
-    by : (t : Bool) → ltb x y ≡ t → (p : Bool) → ltb x c ≡ p → (q : Bool) → ltb y c ≡ q → ltb (cond t x y) c ≡ (p || q)
-    by true e true ex q ey = ex
-    by true e false ex true ey = absurd (let a = ltb-true x y e in let b = ltb-false x c ex in let d = ltb-true y c ey in omega arith)
-    by true e false ex false ey = ex
-    by false e true ex q ey = lt-ltb y c (let a = ltb-false x y e in let b = ltb-true x c ex in omega arith)
-    by false e false ex q ey = ey
+    by : (p : Bool) → ltb x c ≡ p → (q : Bool) → ltb y c ≡ q → ltb (min y x) c ≡ (p || q)
+    by true ex q ey = lt-ltb (min y x) c (omega (arith, ltb-true x c ex))
+    by false ex true ey = lt-ltb (min y x) c (omega (arith, ltb-true y c ey))
+    by false ex false ey = le-ltb (min y x) c (omega (arith, ltb-false x c ex, ltb-false y c ey))
 
 lowered-below : (lifts : List ℕ) (v x w c : ℕ) → w < length lifts → ltb (getD (lowered lifts v x) w 0) c ≡ ((eqb v w && ltb x c) || ltb (getD lifts w 0) c)
-unfolding lowered
 lowered-below lifts v x w c h = by (ℕ-discrete w v)
   where
-    by : Dec (w ≡ v) → ltb (getD (set lifts v (lesserOf x (getD lifts v 0))) w 0) c ≡ ((eqb v w && ltb x c) || ltb (getD lifts w 0) c)
+    by : Dec (w ≡ v) → ltb (getD (lowered lifts v x) w 0) c ≡ ((eqb v w && ltb x c) || ltb (getD lifts w 0) c)
     by (yes same) =
         rw same
-        (ap (λ (n : ℕ). ltb n c) (getD-set-same lifts v (lesserOf x (getD lifts v 0)) 0 (omega arith))
+        (ap (λ (n : ℕ). ltb n c) (getD-set-same lifts v (min (getD lifts v 0) x) 0 (omega arith))
         ∙ lesser-below x (getD lifts v 0) c
         ∙ ap (λ (t : Bool). (t && ltb x c) || ltb (getD lifts v 0) c) (sym (eq-eqb v v refl)))
     by (no other) =
-        ap (λ (n : ℕ). ltb n c) (getD-set-other lifts v w (lesserOf x (getD lifts v 0)) 0 other)
+        ap (λ (n : ℕ). ltb n c) (getD-set-other lifts v w (min (getD lifts v 0) x) 0 other)
         ∙ ap (λ (t : Bool). (t && ltb x c) || ltb (getD lifts w 0) c) (sym (ne-eqb v w (λ e. other (sym e))))
 
 -- The loop's state at road i.

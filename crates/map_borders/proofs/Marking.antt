@@ -12,7 +12,7 @@ use lib.Dec.{eqb}
 use borrow.Author.Tests.{lt-ltb, le-ltb, eq-eqb, ne-eqb}
 use Rattle.words.specs.Limits.{mostParts}
 use Rattle.words.specs.Lists.{countFrom, sum, word}
-use Rattle.map_borders.specs.Mark.{bumped, steps, Marked, Counted}
+use Rattle.map_borders.specs.Mark.{bumped, steps, Marked, BordersCounted}
 
 bumped-length : (counts : List ℕ) (p : ℕ) → length (bumped counts p) ≡ length counts
 unfolding bumped
@@ -41,9 +41,9 @@ bumped-few counts p q = by (ℕ-discrete q p)
 -- The state on the way up: `left` steps are left, from `part` on.
 pub record Marking (parents : List ℕ) (lift leaf : ℕ) (counts : List ℕ) (left part : ℕ) (now : List ℕ) : Type 0 where
   pub room : length now ≡ mostParts
-  pub reached : left ≤ 512
-  pub few : (p : ℕ) → getD now p 0 + left ≤ getD counts p 0 + 512
-  pub each : (p : ℕ) → p < mostParts → getD now p 0 + steps parents left lift part p ≡ getD counts p 0 + steps parents 512 lift leaf p
+  pub reached : left ≤ mostParts
+  pub few : (p : ℕ) → getD now p 0 + left ≤ getD counts p 0 + mostParts
+  pub each : (p : ℕ) → p < mostParts → getD now p 0 + steps parents left lift part p ≡ getD counts p 0 + steps parents mostParts lift leaf p
 
 steps-more : (parents : List ℕ) (left lift part p : ℕ) → 0 < left → lift < part
     → steps parents left lift part p ≡ cond (eqb (word parents part) p) 1 0 + steps parents (left - 1) lift (word parents part) p
@@ -65,7 +65,7 @@ steps-end parents zero lift part p h = refl
 steps-end parents (suc left) lift part p h = absurd (omega arith)
 
 module _ {parents : List ℕ} {lift leaf : ℕ} {counts : List ℕ} where
-  pub marking-start : length counts ≡ mostParts → Marking parents lift leaf counts 512 leaf counts
+  pub marking-start : length counts ≡ mostParts → Marking parents lift leaf counts mostParts leaf counts
   marking-start room = record { room = room; reached = omega arith; few = λ p. omega arith; each = λ p h. refl }
 
   pub marking-step : {now after : List ℕ} (left part above : ℕ) → Marking parents lift leaf counts left part now → 0 < left → lift < part → above ≡ word parents part
@@ -95,13 +95,13 @@ module _ {parents : List ℕ} {lift leaf : ℕ} {counts : List ℕ} where
 
 -- what all vertices from v on count for part p
 abbrev marks : List ℕ → List ℕ → List ℕ → ℕ → ℕ → ℕ → ℕ
-marks parents leaves lifts v n p = sum (map (λ w. steps parents 512 (word lifts w) (word leaves w) p) (countFrom v n))
+marks parents leaves lifts v n p = sum (map (λ w. steps parents mostParts (word lifts w) (word leaves w) p) (countFrom v n))
 
 -- The state at vertex v: what is counted and what is left to count make the whole count.
 pub record Totalling (parents leaves lifts : List ℕ) (n : ℕ) (counts : List ℕ) (v : ℕ) (now : List ℕ) : Type 0 where
   pub reached : v ≤ n
   pub room : length now ≡ mostParts
-  pub few : (p : ℕ) → word now p ≤ word counts p + 512 * v
+  pub few : (p : ℕ) → word now p ≤ word counts p + mostParts * v
   pub each : (p : ℕ) → p < mostParts → word now p + marks parents leaves lifts v (n - v) p ≡ word counts p + marks parents leaves lifts 0 n p
 
 sum-more : (f : ℕ → ℕ) (n v : ℕ) → v < n → sum (map f (countFrom v (n - v))) ≡ f v + sum (map f (countFrom (v + 1) (n - (v + 1))))
@@ -130,12 +130,12 @@ module _ {parents leaves lifts : List ℕ} {n : ℕ} {counts : List ℕ} where
             omega (
               arith,
               s .each p hp,
-              marked .each p hp ∙ ap (λ (q : ℕ). word now p + steps parents 512 (word lifts v) q p) is,
-              sum-more (λ w. steps parents 512 (word lifts w) (word leaves w) p) n v h,
+              marked .each p hp ∙ ap (λ (q : ℕ). word now p + steps parents mostParts (word lifts v) q p) is,
+              sum-more (λ w. steps parents mostParts (word lifts w) (word leaves w) p) n v h,
             );
       }
 
-  pub totalling-done : {now : List ℕ} (v : ℕ) → Totalling parents leaves lifts n counts v now → n ≤ v → Counted parents leaves lifts n counts now
+  pub totalling-done : {now : List ℕ} (v : ℕ) → Totalling parents leaves lifts n counts v now → n ≤ v → BordersCounted parents leaves lifts n counts now
   totalling-done {now} v s h =
       record {
         room = s .room;

@@ -2,26 +2,18 @@
 use mathlib.Core.Path.{_≡_}
 use mathlib.Core.Bool.{Bool, _&&_, _||_, cond}
 use mathlib.Core.List.{List}
-use Prim.Native.Nat.{ℕ, zero, suc, _+_, _*_, _<_}
-use lib.ListN.{length, set}
+use Prim.Native.Nat.{ℕ, zero, suc, _+_, _*_, _<_, min, max}
+use lib.ListN.{length}
 use lib.Dec.{ltb, eqb}
 use Rattle.words.specs.Limits.{mostVertices, NONE}
 use Rattle.words.specs.Lists.{countFrom, word, any}
+use Rattle.cells.specs.Lowered.{lowered}
 use Rattle.maps.specs.Bytes.{field}
-
-unfoldable pub lesserOf : ℕ → ℕ → ℕ
-lesserOf x y = cond (ltb x y) x y
-
-unfoldable pub greaterOf : ℕ → ℕ → ℕ
-greaterOf x y = cond (ltb x y) y x
 
 -- the lowest part that is a or b or lies above them, in n steps: the one with the higher number gives way to its parent
 unfoldable pub meet : List ℕ → ℕ → ℕ → ℕ → ℕ
 meet parents zero a b = 0
-meet parents (suc n) a b = let above = meet parents n (lesserOf a b) (word parents (greaterOf a b)) in cond (eqb a b) a above
-
-unfoldable pub lowered : List ℕ → ℕ → ℕ → List ℕ
-lowered lifts v x = set lifts v (lesserOf x (word lifts v))
+meet parents (suc n) a b = let above = meet parents n (min a b) (word parents (max a b)) in cond (eqb a b) a above
 
 -- the lowest part that both ends of road i stand in
 unfoldable pub roadMeet : List ℕ → List ℕ → List ℕ → ℕ → ℕ

@@ -20,13 +20,13 @@ steps parents (suc n) lift c p = let above = cond (eqb (word parents c) p) 1 0 +
 -- the counts after one vertex more
 pub record Marked (parents : List ℕ) (lift leaf : ℕ) (counts after : List ℕ) : Type 0 where
   pub room : length after ≡ mostParts
-  pub each : (p : ℕ) → p < mostParts → word after p ≡ word counts p + steps parents 512 lift leaf p
-  pub few : (p : ℕ) → word after p ≤ word counts p + 512
+  pub each : (p : ℕ) → p < mostParts → word after p ≡ word counts p + steps parents mostParts lift leaf p
+  pub few : (p : ℕ) → word after p ≤ word counts p + mostParts
 
 -- the counts after the first n vertices more
-pub record Counted (parents leaves lifts : List ℕ) (n : ℕ) (counts after : List ℕ) : Type 0 where
+pub record BordersCounted (parents leaves lifts : List ℕ) (n : ℕ) (counts after : List ℕ) : Type 0 where
   pub room : length after ≡ mostParts
-  pub each : (p : ℕ) → p < mostParts → word after p ≡ word counts p + sum (map (λ v. steps parents 512 (word lifts v) (word leaves v) p) (countFrom 0 n))
+  pub each : (p : ℕ) → p < mostParts → word after p ≡ word counts p + sum (map (λ v. steps parents mostParts (word lifts v) (word leaves v) p) (countFrom 0 n))
 
 -- part p has at most 128 rows
 unfoldable pub fewAt : List ℕ → ℕ → Bool

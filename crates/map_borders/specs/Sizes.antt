@@ -13,11 +13,11 @@ use Rattle.parts.specs.Border.{boundary}
 use Rattle.parts.specs.Size.{sizeOf}
 use Rattle.maps.specs.Bytes.{roadsOf}
 use Rattle.maps.specs.Rules.{partsFit, roadsFit}
-use Rattle.map_parts.specs.Part.{Shows}
+use Rattle.map_parts.specs.Part.{ShowsPartsOf}
 
 -- m is the map with these parents and leaves and the roads of this body, within the limits, and keeps every rule but the border limit
 pub record Given (m : Map) (parents leaves body : List ℕ) (vertices roads parts : ℕ) : Type 0 where
-  pub shows : Shows m parents leaves vertices parts
+  pub shows : ShowsPartsOf m parents leaves vertices parts
   pub roadList : m .roads ≡ roadsOf roads body
   pub fewVertices : vertices ≤ mostVertices
   pub fewParts : parts ≤ mostParts

@@ -1,3 +1,4 @@
 pub mod Shown
 pub mod Needs
 pub mod Rules
+pub mod Said

@@ -14,8 +14,8 @@ use Rattle.roads.specs.Map.{Map, partCount, roadCount}
 use Rattle.parts.specs.Size.{sizeOf, tableWordsBelow, rowsBelow, tableWords, rowCount, need}
 use Rattle.maps.specs.Bytes.{Counts}
 use Rattle.map_borders.specs.Sizes.{Sizes}
-use Rattle.map_judge.specs.Asked.{asked, Limited}
-use Rattle.map_judge.specs.Need.{sizeWords, wordsOf, needOf}
+use Rattle.map_judge.specs.Bodies.{theCounts, Limited}
+use Rattle.map_judge.specs.Need.{sizeWords, tablesAndRows, needOf}
 
 -- a part of at most 128 rows
 size-few : (size : ℕ) → size ≤ mostBorders → size * size ≤ 16384
@@ -36,7 +36,7 @@ pub record Summing (c : Counts) (sizes : List ℕ) (p words : ℕ) : Type 0 wher
 module _ {c : Counts} {sizes : List ℕ} where
   pub summing-start : {words : ℕ} → Limited c → length sizes ≡ 512 → ((q : ℕ) → q < c .parts → word sizes q ≤ mostBorders)
       → words ≡ headWords + 8 * (c .parts + c .vertices) + 4 * c .roads + 8 * vans → Summing c sizes 0 words
-  unfolding needOf wordsOf
+  unfolding needOf tablesAndRows
   summing-start {words} limits room small is =
       record {
         reached = omega arith;
@@ -73,8 +73,8 @@ module _ {c : Counts} {sizes : List ℕ} where
       omega (arith, s .same)
 
 -- the sizes of the parts of a map give its need
-pub need-is : (m : Map) (v r p : ℕ) (sizes : List ℕ) → m .vertices ≡ v → roadCount m ≡ r → partCount m ≡ p → Sizes m sizes → needOf (asked v r p) sizes ≡ need m
-unfolding needOf wordsOf need tableWords tableWordsBelow rowCount rowsBelow
+pub need-is : (m : Map) (v r p : ℕ) (sizes : List ℕ) → m .vertices ≡ v → roadCount m ≡ r → partCount m ≡ p → Sizes m sizes → needOf (theCounts v r p) sizes ≡ need m
+unfolding needOf tablesAndRows need tableWords tableWordsBelow rowCount rowsBelow
 need-is m v r p sizes isV isR isP sized =
     omega (
       arith,

@@ -1,4 +1,4 @@
 -- The counts that the functions are given, the words that the sizes ask for, and what judging a map gives.
-pub mod Asked
+pub mod Bodies
 pub mod Need
 pub mod Verdict

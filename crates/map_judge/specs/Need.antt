@@ -10,8 +10,8 @@ abbrev pub sizeWords : ℕ → ℕ
 sizeWords size = size * size + 4 * size
 
 -- those of the parts from 0 on, n of them
-unfoldable pub wordsOf : List ℕ → ℕ → ℕ
-wordsOf sizes n = sum (map (λ p. sizeWords (word sizes p)) (upTo n))
+unfoldable pub tablesAndRows : List ℕ → ℕ → ℕ
+tablesAndRows sizes n = sum (map (λ p. sizeWords (word sizes p)) (upTo n))
 
 unfoldable pub needOf : Counts → List ℕ → ℕ
-needOf c sizes = headWords + 8 * (c .parts + c .vertices) + 4 * c .roads + 8 * vans + wordsOf sizes (c .parts)
+needOf c sizes = headWords + 8 * (c .parts + c .vertices) + 4 * c .roads + 8 * vans + tablesAndRows sizes (c .parts)

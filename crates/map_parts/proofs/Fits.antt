@@ -18,7 +18,7 @@ use Rattle.parts.specs.Tree.{parentOf, leafOf, climb, upward, level, children, 
 use Rattle.maps.specs.Rules.{rootFits, parentFits, familyFits, levelFits, standsInLeaf, partsFit}
 use Rattle.map_bytes.specs.Each.{eachFrom}
 use Rattle.map_bytes.proofs.Each.{each-all}
-use Rattle.map_parts.specs.Part.{Shows, fallen, family, near, partTest, standing}
+use Rattle.map_parts.specs.Part.{ShowsPartsOf, fallen, family, near, partTest, standing}
 use Rattle.map_parts.specs.Tally.{tallied, Tallied}
 
 fallen-lower : (parents : List ℕ) (p : ℕ) → fallen parents p ≡ true → eqb p 0 ≡ false → word parents p < p
@@ -29,7 +29,7 @@ fallen-lower parents p f e = ltb-true _ p (sym (ap (λ (root : Bool). root || lt
 each-is : (test rule : ℕ → Bool) (n : ℕ) → ((i : ℕ) → i < n → test i ≡ rule i) → eachFrom test 0 n ≡ all rule (upTo n)
 each-is test rule n same = each-all test n ∙ all-counted test rule 0 n (λ i low h. let hi : i < n = omega arith in same i hi)
 
-module _ (m : Map) (parents leaves : List ℕ) (vertices parts : ℕ) (shows : Shows m parents leaves vertices parts) where
+module _ (m : Map) (parents leaves : List ℕ) (vertices parts : ℕ) (shows : ShowsPartsOf m parents leaves vertices parts) where
   -- how many vertices stand in part p
   pub homes-are : (p : ℕ) → length (verticesOf m p) ≡ tallied leaves 0 vertices p
   unfolding verticesOf tallied

@@ -11,7 +11,7 @@ use Rattle.roads.specs.Map.{Map, partCount}
 use Rattle.parts.specs.Tree.{parentOf, leafOf}
 
 -- m is a map with so many vertices and parts, whose parents and leaves these words are
-pub record Shows (m : Map) (parents leaves : List ℕ) (vertices parts : ℕ) : Type 0 where
+pub record ShowsPartsOf (m : Map) (parents leaves : List ℕ) (vertices parts : ℕ) : Type 0 where
   pub count : partCount m ≡ parts
   pub parent : (p : ℕ) → p < parts → parentOf m p ≡ word parents p
   pub vertexCount : m .vertices ≡ vertices

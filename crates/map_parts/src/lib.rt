@@ -4,11 +4,12 @@ use counts::is_within;
 ghost use mathlib.Core.Path.{_≡_};
 ghost use Prim.Native.Nat.{ℕ, _<_, _≤_};
 ghost use lib.ListN.{length};
+ghost use Rattle.words.specs.Limits.{mostParts};
 ghost use Rattle.words.specs.Lists.{word};
 ghost use Rattle.roads.specs.Map.{Map};
 ghost use Rattle.maps.specs.Rules.{partsFit};
 ghost use Rattle.map_bytes.specs.Each.{eachFrom};
-ghost use Rattle.map_parts.specs.Part.{fallen, family, near, partTest, standing, Shows};
+ghost use Rattle.map_parts.specs.Part.{fallen, family, near, partTest, standing, ShowsPartsOf};
 ghost use Rattle.map_parts.specs.Tally.{Tallied};
 
 // How many children a part has, and how many vertices stand in it.
@@ -53,7 +54,7 @@ pub fn entry(words: &[u32], i: u32) -> u32
 
 // For each part, how many of the first n words are its number.
 pub fn tally(numbers: &[u32], n: u32, counts: &mut [u32; 512])
-    requires { ⌜ (length (now counts) ≡ 512) × ((p : ℕ) → word (now counts) p ≡ 0) × (n < 65536) ⌝ }
+    requires { ⌜ (length (now counts) ≡ mostParts) × ((p : ℕ) → word (now counts) p ≡ 0) × (n < 65536) ⌝ }
     ensures { λ _. ⌜ Tallied (now (numbers .entry)) n (now (counts .exit)) ⌝ }
 {
     let mut i: u32 = 0;
@@ -95,7 +96,7 @@ fn near_root(parents: &[u32], p: u32) -> bool
 // Part p is the root or its parent's number is lower, it is a leaf with 1 to 32 vertices or has 2 to 8 children, and its
 // level is 1 to 16.
 fn part_fits(parents: &[u32], children: &[u32; 512], homes: &[u32; 512], p: u32) -> bool
-    requires { ⌜ (length (now children) ≡ 512) × (length (now homes) ≡ 512) × (p < 512) ⌝ }
+    requires { ⌜ (length (now children) ≡ mostParts) × (length (now homes) ≡ mostParts) × (p < mostParts) ⌝ }
     ensures { λ r. ⌜ r ≡ partTest (now (parents .entry)) (now (children .entry)) (now (homes .entry)) p ⌝ }
 {
     if !parent_fits(parents, p) {
@@ -113,7 +114,7 @@ fn part_fits(parents: &[u32], children: &[u32; 512], homes: &[u32; 512], p: u32)
 }
 
 fn tree_fits(parents: &[u32], children: &[u32; 512], homes: &[u32; 512], parts: u32) -> bool
-    requires { ⌜ (length (now children) ≡ 512) × (length (now homes) ≡ 512) × (parts ≤ 512) ⌝ }
+    requires { ⌜ (length (now children) ≡ mostParts) × (length (now homes) ≡ mostParts) × (parts ≤ mostParts) ⌝ }
     ensures { λ r. ⌜ r ≡ eachFrom (partTest (now (parents .entry)) (now (children .entry)) (now (homes .entry))) 0 parts ⌝ }
 {
     let mut p: u32 = 0;
@@ -128,7 +129,7 @@ fn tree_fits(parents: &[u32], children: &[u32; 512], homes: &[u32; 512], parts: 
 
 // Vertex v stands in a part without children.
 fn stands(leaves: &[u32], children: &[u32; 512], parts: u32, v: u32) -> bool
-    requires { ⌜ (length (now children) ≡ 512) × (parts ≤ 512) ⌝ }
+    requires { ⌜ (length (now children) ≡ mostParts) × (parts ≤ mostParts) ⌝ }
     ensures { λ r. ⌜ r ≡ standing (now (leaves .entry)) (now (children .entry)) parts v ⌝ }
 {
     let leaf = entry(leaves, v);
@@ -139,7 +140,7 @@ fn stands(leaves: &[u32], children: &[u32; 512], parts: u32, v: u32) -> bool
 }
 
 fn vertices_stand(leaves: &[u32], children: &[u32; 512], parts: u32, vertices: u32) -> bool
-    requires { ⌜ (length (now children) ≡ 512) × (parts ≤ 512) ⌝ }
+    requires { ⌜ (length (now children) ≡ mostParts) × (parts ≤ mostParts) ⌝ }
     ensures { λ r. ⌜ r ≡ eachFrom (standing (now (leaves .entry)) (now (children .entry)) parts) 0 vertices ⌝ }
 {
     let mut v: u32 = 0;
@@ -154,8 +155,8 @@ fn vertices_stand(leaves: &[u32], children: &[u32; 512], parts: u32, vertices: u
 
 // The map with these parents and leaves keeps the rules for parts but for the border limit.
 pub fn parts_fit(parents: &[u32], leaves: &[u32], vertices: u32, parts: u32) -> bool
-    requires { ⌜ (vertices < 65536) × (1 ≤ parts) × (parts ≤ 512) ⌝ }
-    ensures { λ r. ⌜ ((m : Map) → Shows m (now (parents .entry)) (now (leaves .entry)) vertices parts → r ≡ partsFit m) ⌝ }
+    requires { ⌜ (vertices < 65536) × (1 ≤ parts) × (parts ≤ mostParts) ⌝ }
+    ensures { λ r. ⌜ ((m : Map) → ShowsPartsOf m (now (parents .entry)) (now (leaves .entry)) vertices parts → r ≡ partsFit m) ⌝ }
 {
     if entry(parents, 0) != Part::NONE {
         return false;

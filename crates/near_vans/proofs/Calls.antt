@@ -10,7 +10,7 @@ use Rattle.roads.specs.Map.{Map}
 use Rattle.counts.specs.declared.Counts.{Counts}
 use Rattle.fleet.specs.State.{State}
 use Rattle.fleet.specs.Question.{Listed, nearest}
-use Rattle.places.specs.Place.{countsIn, vertexAt}
+use Rattle.places.specs.Place.{countsIn, vertexAddress}
 use Rattle.best_list.specs.Best.{entries, limitOf, offeredAll}
 use Rattle.van_offers.specs.Offers.{stampIn, vanOffers}
 use Rattle.van_offers.specs.Genuine.{Genuine, listOf}
@@ -45,7 +45,7 @@ module _ (mem : List ℕ) (x k : ℕ) (some : 1 ≤ k) where
       all-farther is-limit beyond m fleet g hx = stopped g x hx k some (kept m fleet g hx) (λ j h. omega (arith, least .least j h, near-is, is-limit, beyond))
 
       pub goes-on : (fars′ vans′ : List ℕ) (len′ : ℕ) {at′ labels′ vertices′ : List ℕ} {v : ℕ} {counts : Counts} {link first : ℕ} {at″ labels″ vertices″ : List ℕ} {n′ : ℕ}
-          → Taken i n at labels vertices at′ labels′ vertices′ v → counts ≡ countsIn mem → link ≡ word mem (vertexAt counts v + 4) → first ≡ word mem (vertexAt counts v + 3)
+          → Taken i n at labels vertices at′ labels′ vertices′ v → counts ≡ countsIn mem → link ≡ word mem (vertexAddress counts v + 4) → first ≡ word mem (vertexAddress counts v + 3)
           → listOf mem fars′ vans′ len′ ≡ offeredAll k (listOf mem fars vans len) (vanOffers mem counts near 1024 link) → MetAll mem counts first near (n - 1) at′ labels′ vertices′ at″ labels″ vertices″ n′ → n′ ≤ 128
           → Keeps mem x k at″ labels″ vertices″ n′ fars′ vans′ len′
       goes-on fars′ vans′ len′ taken counts-are link-is first-is found-are met most m fleet g hx = turned g x hx k some (kept m fleet g hx) i near least near-is taken counts-are link-is first-is found-are met most

@@ -70,10 +70,10 @@ module _ {m : Map} {s : State} {mem : List ℕ} {counts : Counts} {x v first nea
           go (entry-in (m .roads) j noRoad hj)
           (subst⁻¹ (λ (b : ℕ). Walk m b x near) into (weigh-walk (sym (o .near-is)) (dist-exact m net v x (o .is-vertex) .reached (λ far. omega (arith, far, o .near-is, o .reaches)))))
 
-      read : (w : ℕ) → w < 4 → {r : ℕ} → r ≡ place.roadAt counts j → word mem (r + w) ≡ word (roadRecord m j) w
-      read w hw at-road = ap (λ (k : ℕ). word mem (k + w)) (at-road ∙ ap (λ (c : Counts). place.roadAt c j) (o .counts-are)) ∙ road-read (o .genuine) j w hj hw
+      read : (w : ℕ) → w < 4 → {r : ℕ} → r ≡ place.roadAddress counts j → word mem (r + w) ≡ word (roadRecord m j) w
+      read w hw at-road = ap (λ (k : ℕ). word mem (k + w)) (at-road ∙ ap (λ (c : Counts). place.roadAddress c j) (o .counts-are)) ∙ road-read (o .genuine) j w hj hw
 
-      module _ {r u far next′ n′ : ℕ} {at′ labels′ vertices′ : List ℕ} (is-record : r ≡ place.roadAt counts j) (is-from : u ≡ word mem r % 4096) (is-far : far ≡ min (near + word mem (r + 2)) 4294967295)
+      module _ {r u far next′ n′ : ℕ} {at′ labels′ vertices′ : List ℕ} (is-record : r ≡ place.roadAddress counts j) (is-from : u ≡ word mem r % 4096) (is-far : far ≡ min (near + word mem (r + 2)) 4294967295)
           (is-next : next′ ≡ word mem (r + 3)) (was-met : Met u far n at labels vertices at′ labels′ vertices′ n′) (most : n′ ≤ 128) where
         from-is : u ≡ roadAt m j .from
         unfolding roadRecord
@@ -131,7 +131,7 @@ module _ {m : Map} {s : State} {mem : List ℕ} {counts : Counts} {x v first nea
               same = λ w. after .same w ∙ g .same w;
             }
 
-    pub going-on : {r number u far next′ n′ : ℕ} {at′ labels′ vertices′ : List ℕ} → next ≢ 0 → number ≡ next - 1 → r ≡ place.roadAt counts number → u ≡ word mem r % 4096
+    pub going-on : {r number u far next′ n′ : ℕ} {at′ labels′ vertices′ : List ℕ} → next ≢ 0 → number ≡ next - 1 → r ≡ place.roadAddress counts number → u ≡ word mem r % 4096
         → far ≡ min (near + word mem (r + 2)) 4294967295 → next′ ≡ word mem (r + 3) → Met u far n at labels vertices at′ labels′ vertices′ n′ → n′ ≤ 128
         → Going m x v next′ n′ at₀ at′ labels′ vertices′
     going-on {r} {number} {next′ = next′} {n′} {at′} {labels′} {vertices′} real is-number is-record is-from is-far is-next was-met most = by (road-found m v (g .low) (g .within))
@@ -140,4 +140,4 @@ module _ {m : Map} {s : State} {mem : List ℕ} {counts : Counts} {x v first nea
         by (nothing is none) = absurd (real (g .link-is ∙ is))
         by (found j is from below passes none) =
             let number-is : number ≡ j = omega (arith, is-number, is, g .link-is) in
-            next-road j below from (eqb-true (roadAt m j .to) v passes) none (is-record ∙ ap (place.roadAt counts) number-is) is-from is-far is-next was-met most
+            next-road j below from (eqb-true (roadAt m j .to) v passes) none (is-record ∙ ap (place.roadAddress counts) number-is) is-from is-far is-next was-met most

@@ -17,7 +17,7 @@ use Rattle.roads.specs.Dist.{dist}
 use Rattle.fleet.specs.State.{State, slotOf, headOf}
 use Rattle.fleet.specs.Question.{Listed, comingFrom, sorted}
 use Rattle.fleet.proofs.Coming.{coming-distinct}
-use Rattle.places.specs.Place.{countsIn, vertexAt}
+use Rattle.places.specs.Place.{countsIn, vertexAddress}
 use Rattle.best_list.specs.Best.{offeredAll}
 use Rattle.best_list.proofs.Offers.{offered-more}
 use Rattle.van_offers.specs.Offers.{vanOffers}
@@ -35,7 +35,7 @@ module _ {m : Map} {s : State} {mem : List ℕ} (g : Genuine m s mem) (x : ℕ) 
   module _ (v near : ℕ) (hv : v < m .vertices) (near-is : near ≡ dist m v x) (reaches : near < FAR) (k : ℕ) (some : 1 ≤ k) (at at′ : List ℕ) (not-taken : word at v ≢ 255) (now-taken : word at′ v ≡ 255)
       (others : (u : ℕ) → u ≢ v → (word at′ u ≡ 255 → word at u ≡ 255) × (word at u ≡ 255 → word at′ u ≡ 255)) where
     offers : List Listed
-    offers = vanOffers mem (countsIn mem) near 1024 (word mem (vertexAt (countsIn mem) v + 4))
+    offers = vanOffers mem (countsIn mem) near 1024 (word mem (vertexAddress (countsIn mem) v + 4))
 
     offers-come : (e : Listed) → List·Memᴰ e offers → (c : Comer g x e) × (headOf m (c .van) ≡ v)
     unfolding offers
@@ -45,7 +45,7 @@ module _ {m : Map} {s : State} {mem : List ℕ} (g : Genuine m s mem) (x : ℕ) 
     unfolding offers
     comes-offered e c heads = Memᴰ·cast (c .same) (offers-have g x v near reaches near-is hv (c .place) (c .van) (c .there) (c .free) heads)
 
-    pub vertex-best : offeredAll k (take k (sorted (keep (isOffered m s at) (comingFrom m x 0 (s .vans))))) (vanOffers mem (countsIn mem) near 1024 (word mem (vertexAt (countsIn mem) v + 4)))
+    pub vertex-best : offeredAll k (take k (sorted (keep (isOffered m s at) (comingFrom m x 0 (s .vans))))) (vanOffers mem (countsIn mem) near 1024 (word mem (vertexAddress (countsIn mem) v + 4)))
         ≡ take k (sorted (keep (isOffered m s at′) (comingFrom m x 0 (s .vans))))
     unfolding offers
     vertex-best =

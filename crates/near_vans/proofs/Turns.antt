@@ -26,7 +26,7 @@ use Rattle.fleet.specs.State.{State, slotOf, headOf}
 use Rattle.fleet.specs.Question.{Listed, comingFrom, sorted, nearest}
 use Rattle.fleet.proofs.Coming.{coming-distinct}
 use Rattle.image.specs.Image.{vertexRecord}
-use Rattle.places.specs.Place.{countsIn, vertexAt}
+use Rattle.places.specs.Place.{countsIn, vertexAddress}
 use Rattle.best_list.specs.Best.{limitOf, offeredAll}
 use Rattle.van_offers.specs.Offers.{vanOffers}
 use Rattle.van_offers.specs.Genuine.{Genuine}
@@ -128,7 +128,7 @@ module _ {m : Map} {s : State} {mem : List ℕ} (g : Genuine m s mem) (x : ℕ) 
           let told = least-exact net x at labels vertices n i (st .around) least in
           (near-is ∙ told .0 ∙ ap (λ (u : ℕ). dist m u x) (sym (t .vertex-is)), omega (arith, near-is, told .1))
 
-      module _ {counts : Counts} (counts-are : counts ≡ countsIn mem) {link first : ℕ} (link-is : link ≡ word mem (vertexAt counts v + 4)) (first-is : first ≡ word mem (vertexAt counts v + 3)) {found′ : List Listed}
+      module _ {counts : Counts} (counts-are : counts ≡ countsIn mem) {link first : ℕ} (link-is : link ≡ word mem (vertexAddress counts v + 4)) (first-is : first ≡ word mem (vertexAddress counts v + 3)) {found′ : List Listed}
           (found-are : found′ ≡ offeredAll k found (vanOffers mem counts near 1024 link)) {at″ labels″ vertices″ : List ℕ} {n′ : ℕ}
           (met : MetAll mem counts first near (n - 1) at′ labels′ vertices′ at″ labels″ vertices″ n′) (most : n′ ≤ 128) where
         opened : Opened m s mem counts x v first near (n - 1) at′ labels′ vertices′
@@ -141,7 +141,7 @@ module _ {m : Map} {s : State} {mem : List ℕ} (g : Genuine m s mem) (x : ℕ) 
               caller = hx;
               near-is = exact .0;
               reaches = exact .1;
-              first-is = first-is ∙ ap (λ (c : Counts). word mem (vertexAt c v + 3)) counts-are ∙ vertex-read g v 3 hv (omega arith);
+              first-is = first-is ∙ ap (λ (c : Counts). word mem (vertexAddress c v + 3)) counts-are ∙ vertex-read g v 3 hv (omega arith);
               was-taken = now-taken few (st .around) i (least .is-place) t;
               around = taken-around few (st .around) i (least .is-place) t;
             }
@@ -152,7 +152,7 @@ module _ {m : Map} {s : State} {mem : List ℕ} (g : Genuine m s mem) (x : ℕ) 
         list-now : found′ ≡ take k (sorted (keep (isOffered m s at′) (comingFrom m x 0 (s .vans))))
         list-now =
             found-are
-            ∙ (λ j. offeredAll k (st .list j) (vanOffers mem (counts-are j) near 1024 ((link-is ∙ ap (λ (c : Counts). word mem (vertexAt c v + 4)) counts-are) j)))
+            ∙ (λ j. offeredAll k (st .list j) (vanOffers mem (counts-are j) near 1024 ((link-is ∙ ap (λ (c : Counts). word mem (vertexAddress c v + 4)) counts-are) j)))
             ∙ vertex-best g x v near hv (exact .0) (exact .1) k some at at′ (not-taken few (st .around) i (least .is-place) t) (now-taken few (st .around) i (least .is-place) t)
             (others-as-before few (st .around) i (least .is-place) t)
 

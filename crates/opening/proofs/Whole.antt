@@ -18,7 +18,7 @@ use Rattle.image.proofs.Records.{vertices-start, roads-start, vans-start, table
 use Rattle.opening_fresh.proofs.Fresh.{fresh-slots}
 use Rattle.opening_rows.proofs.Places.{part-from}
 use Rattle.opening_sections.specs.Sections.{Sections}
-use Rattle.assembly.specs.Laid.{LaidPart, LaidRoad, LaidRow, Laid, Filled}
+use Rattle.assembly.specs.Laid.{PartLaid, RoadLaid, RowLaid, LaidForTables, Filled}
 
 module _ (m : Map) (start : ℕ) (mem : List ℕ) (stand : Sections m start mem) where
   abbrev target : List ℕ
@@ -38,7 +38,7 @@ module _ (m : Map) (start : ℕ) (mem : List ℕ) (stand : Sections m start mem)
   roads-before : (r : ℕ) → r < roadCount m → roadsAt m + 4 * r + 4 ≤ tablesAt m
   roads-before r h = omega (arith, tables-start m, vans-start m)
 
-  laid-part : (p : ℕ) → p < partCount m → LaidPart m mem p
+  laid-part : (p : ℕ) → p < partCount m → PartLaid m mem p
   unfolding partRecord
   laid-part p h =
       let end = parts-before p h in
@@ -52,7 +52,7 @@ module _ (m : Map) (start : ℕ) (mem : List ℕ) (stand : Sections m start mem)
   unfolding vertexRecord
   laid-vertex v h = before (verticesAt m + 8 * v + 2) (omega (arith, vertices-before v h)) ∙ vertex-word m (freshState start) (fresh-slots start) v 2 h (omega arith)
 
-  laid-road : (r : ℕ) → r < roadCount m → LaidRoad m mem r
+  laid-road : (r : ℕ) → r < roadCount m → RoadLaid m mem r
   unfolding roadRecord
   laid-road r h =
       let end = roads-before r h in
@@ -71,7 +71,7 @@ module _ (m : Map) (start : ℕ) (mem : List ℕ) (stand : Sections m start mem)
         before 4 (omega arith) ∙ head-word m (freshState start) (fresh-slots start) 4 (omega arith),
       )
 
-  laid-row : (p i : ℕ) → p < partCount m → i < sizeOf m p → LaidRow m mem p i
+  laid-row : (p i : ℕ) → p < partCount m → i < sizeOf m p → RowLaid m mem p i
   laid-row p i hp hi =
       record {
         mark = stand .rows p i 2 hp hi (omega arith) ∙ shown-word m (freshState start) (fresh-slots start) p i 2 hp hi (omega arith);
@@ -79,7 +79,7 @@ module _ (m : Map) (start : ℕ) (mem : List ℕ) (stand : Sections m start mem)
       }
 
   -- what filling the tables reads
-  pub sections-laid : Sound m → Laid m mem
+  pub sections-laid : Sound m → LaidForTables m mem
   sections-laid sound =
       record {
         sound = sound;

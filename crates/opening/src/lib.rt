@@ -11,7 +11,6 @@ ghost use Prim.Native.Nat.{_≤_};
 ghost use lib.ListN.{length};
 ghost use Rattle.roads.specs.Map.{Map};
 ghost use Rattle.maps.specs.Judge.{sound, judge};
-ghost use Rattle.fleet.specs.Change.{refused};
 ghost use Rattle.fleet.specs.State.{freshState};
 ghost use Rattle.image.specs.Image.{image};
 ghost use Rattle.calls.specs.Outcome.{Opened};
@@ -27,22 +26,6 @@ fn write_memory(map: &[u8], counts: Counts, used: u32, start: u32, memory: &mut 
     fill_tables(memory);
 }
 
-// The reply to a map with this refusal, 1 to 4.
-fn refused_map(refusal: u32) -> Reply
-    ensures { λ r. ⌜ (1 ≤ refusal → refusal ≤ 4 → answered r ≡ refused refusal) ⌝ }
-{
-    if refusal == 1 {
-        return Reply::BadRecord;
-    }
-    if refusal == 2 {
-        return Reply::BadCounts;
-    }
-    if refusal == 3 {
-        return Reply::BadParts;
-    }
-    Reply::BadRoads
-}
-
 // A sound map, with its counts and its need.
 fn open_sound(map: &[u8], counts: Counts, used: u32, memory: &mut [u32], start: u32) -> Reply
     requires { ⌜ (counts .vertices ≤ 4096) × (counts .roads ≤ 16384) × (counts .parts ≤ 512) ⌝ }
@@ -50,7 +33,7 @@ fn open_sound(map: &[u8], counts: Counts, used: u32, memory: &mut [u32], start: 
 {
     let need = wide(used);
     if memory.len() < need {
-        return Reply::TooSmall;
+        return Reply::TooFewWords;
     }
     write_memory(map, counts, used, start, &mut memory[..need]);
     Reply::Accepted(start)
@@ -63,6 +46,6 @@ pub fn open(map: &[u8], memory: &mut [u32], start: u32) -> Reply
     let judgement = judge_map(map);
     match judgement {
         Judgement::Sound(counts, used) => open_sound(map, counts, used, memory, start),
-        Judgement::Refused(refusal) => refused_map(refusal),
+        Judgement::Refused(reply) => reply,
     }
 }

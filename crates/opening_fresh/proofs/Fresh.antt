@@ -9,6 +9,7 @@ use lib.Dec.{ltb}
 use Rattle.words.specs.Limits.{vans, FAR}
 use Rattle.words.specs.Lists.{upTo, any, link}
 use Rattle.words.proofs.Ranks.{keep-none}
+use Rattle.layout.specs.Layout.{van·words}
 use Rattle.roads.specs.Map.{Map}
 use Rattle.roads.specs.Dist.{dist}
 use Rattle.parts.specs.Tree.{holds}
@@ -76,6 +77,6 @@ module _ (m : Map) (start : ℕ) where
   unfolding freshState
   absent-slot i h = getD-replicate vans i absent absent h
 
-  pub fresh-van : (i : ℕ) → i < vans → vanWords m (freshState start) i ≡ replicate 8 0
+  pub fresh-van : (i : ℕ) → i < vans → vanWords m (freshState start) i ≡ replicate van·words 0
   unfolding vanWords nextVan
   fresh-van i h = ap (λ (slot : Slot). vanRecord slot (nextVan m slot (suc i) (drop (suc i) (freshState start .vans)))) (absent-slot i h)

@@ -12,14 +12,14 @@ use Rattle.maps.specs.Sound.{Sound}
 use Rattle.maps.proofs.Judged.{numbers-length, roads-length, road-is, Shown, judged-shown, judged-sound}
 use Rattle.map_bytes.specs.Copied.{Copied}
 use Rattle.map_borders.specs.Sizes.{Given, Lifts, Sizes}
-use Rattle.map_judge.specs.Asked.{asked}
+use Rattle.map_judge.specs.Bodies.{theCounts}
 use Rattle.map_judge.proofs.Shown.{shows-by, given-by}
 use Rattle.opening_sections.specs.Sections as sections
 use Rattle.opening_sections.specs.Counted.{Counted}
 
 -- the words that the sections' functions are lent show the map
 pub shown-by : (m : Map) (parents leaves body lifts sizes : List ℕ) (v r p used : ℕ) → Given m parents leaves body v r p → Sound m → Counted m v r p used → Lifts m lifts → Sizes m sizes
-    → sections.Shown m parents leaves body lifts sizes v r p used
+    → sections.MapShown m parents leaves body lifts sizes v r p used
 shown-by m parents leaves body lifts sizes v r p used given is-sound counted is-lifts is-sizes =
     record {
       sound = is-sound;
@@ -32,7 +32,7 @@ shown-by m parents leaves body lifts sizes v r p used given is-sound counted is-
     }
 
 -- the counts are those of record 1
-pub counts-by : (bytes : List ℕ) (m : Map) (v r p used : ℕ) → judge bytes ≡ sound m → Counted m v r p used → asked v r p ≡ countsOf bytes
+pub counts-by : (bytes : List ℕ) (m : Map) (v r p used : ℕ) → judge bytes ≡ sound m → Counted m v r p used → theCounts v r p ≡ countsOf bytes
 unfolding decode
 counts-by bytes m v r p used judged counted =
     let c = countsOf bytes in
@@ -40,7 +40,7 @@ counts-by bytes m v r p used judged counted =
     let vertices : v ≡ c .vertices = counted .vertex-count ∙ sym (ap (λ (k : Map). k .vertices) same) in
     let roads : r ≡ c .roads = counted .road-count ∙ sym (ap roadCount same) ∙ roads-length (c .roads) (bodyAt bytes (start4 c)) in
     let parts : p ≡ c .parts = counted .part-count ∙ sym (ap partCount same) ∙ numbers-length (c .parts) (bodyAt bytes start2) in
-    (λ i. asked (vertices i) (roads i) (parts i))
+    (λ i. theCounts (vertices i) (roads i) (parts i))
 
 pub given-map : (bytes : List ℕ) (m : Map) (v r p used leavesAt roadsAt : ℕ) (first second body old parents old′ leaves : List ℕ) → judge bytes ≡ sound m → Counted m v r p used
     → first ≡ drop 18 bytes → Copied first p old parents → leavesAt ≡ 24 + 2 * p → second ≡ drop leavesAt bytes → Copied second v old′ leaves
@@ -54,11 +54,11 @@ given-map bytes m v r p used leavesAt roadsAt first second body old parents old�
       some = omega (arith, counted .part-count, is-sound .parts .0);
       parts = omega (arith, counted .part-count, is-sound .parts .1);
     })
-    (shows-by bytes (asked v r p) is-first copied (second-is ∙ ap (λ (k : ℕ). drop k bytes) (at ∙ there)) copied′)
+    (shows-by bytes (theCounts v r p) is-first copied (second-is ∙ ap (λ (k : ℕ). drop k bytes) (at ∙ there)) copied′)
     (body-is ∙ ap (λ (k : ℕ). drop k bytes) (at′ ∙ end))
   where
-    there : 24 + 2 * p ≡ start3 (asked v r p) + 6
+    there : 24 + 2 * p ≡ start3 (theCounts v r p) + 6
     there = omega arith
 
-    end : 30 + 2 * p + 2 * v ≡ start4 (asked v r p) + 6
+    end : 30 + 2 * p + 2 * v ≡ start4 (theCounts v r p) + 6
     end = omega arith

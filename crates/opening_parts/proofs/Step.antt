@@ -17,24 +17,25 @@ use Rattle.words.proofs.Places.{countFrom-from}
 use Rattle.words.proofs.Sums.{sum-last}
 use Rattle.words.proofs.Stores.{stored-join}
 use Rattle.words.proofs.Ranks.{keep-none, keep-split}
+use Rattle.layout.specs.Layout.{part·words, part·child, row·words, partsAt, partAt}
 use Rattle.roads.specs.Map.{Map, partCount}
 use Rattle.parts.specs.Tree.{parentOf, children}
 use Rattle.parts.specs.Size.{sizeOf, tableWordsBelow, tableWords, rowsBelow, rowCount}
-use Rattle.image.specs.Places.{partsAt, rowsAt, tablesAt, tableOf, firstRowOf}
+use Rattle.image.specs.Places.{rowsAt, tablesAt, tableOf, firstRowOf}
 use Rattle.image.specs.Image.{nextSibling, partRecord}
 use Rattle.image.proofs.Records.{rows-start, rows-end}
 use Rattle.records.specs.Written.{Written}
 use Rattle.records.proofs.Written.{written-none, written-down}
-use Rattle.opening_parts.specs.Parts.{partWords, Sized, Ready, PartsStand}
+use Rattle.opening_parts.specs.Parts.{partWords, Sized, PartsReady, PartsStand}
 
 -- the square of a number below 2^16
 pub square-fits : (x : ℕ) → x < 65536 → x * x < 4294967296
 square-fits x h = omega (arith, mul-le-mul-left {m = x} {n = 65535} x (omega arith))
 
 -- the two halves of a part's record
-pub part-stored : (mem p q : List ℕ) (at a b c d e f : ℕ) → p ≡ sets mem at (a ∷ b ∷ c ∷ d ∷ []) → q ≡ sets p (at + 4) (e ∷ f ∷ 0 ∷ 0 ∷ []) → q ≡ sets mem at (partWords a b c d e f)
+pub part-stored : (mem p q : List ℕ) (at a b c d e f : ℕ) → p ≡ sets mem at (a ∷ b ∷ c ∷ d ∷ []) → q ≡ sets p (at + part·child) (e ∷ f ∷ 0 ∷ 0 ∷ []) → q ≡ sets mem at (partWords a b c d e f)
 part-stored mem p q at a b c d e f x y =
-    y ∙ ap (λ (l : List ℕ). sets l (at + 4) (e ∷ f ∷ 0 ∷ 0 ∷ [])) x ∙ stored-join mem at (a ∷ b ∷ c ∷ d ∷ []) (e ∷ f ∷ 0 ∷ 0 ∷ [])
+    y ∙ ap (λ (l : List ℕ). sets l (at + part·child) (e ∷ f ∷ 0 ∷ 0 ∷ [])) x ∙ stored-join mem at (a ∷ b ∷ c ∷ d ∷ []) (e ∷ f ∷ 0 ∷ 0 ∷ [])
 
 pub adopted : (cs cs′ : List ℕ) (parent p at sibling : ℕ) → at ≡ parent → sibling ≡ word cs at → cs′ ≡ set cs at p → (sibling ≡ word cs parent) × (cs′ ≡ set cs parent p)
 adopted cs cs′ parent p at sibling a s e = (s ∙ ap (word cs) a, e ∙ ap (λ (i : ℕ). set cs i p) a)
@@ -62,23 +63,23 @@ pub record Families (m : Map) (p : ℕ) (cs : List ℕ) (table row : ℕ) : Type
   pub table-at : table ≡ tableOf m p
   pub row-at : row ≡ firstRowOf m p
 
-module _ (m : Map) (parents sizes : List ℕ) (parts tablesEnd rowsEnd : ℕ) (cs₀ mem₀ : List ℕ) (ready : Ready m parents sizes parts tablesEnd rowsEnd cs₀ mem₀) where
+module _ (m : Map) (parents sizes : List ℕ) (parts tablesEnd rowsEnd : ℕ) (cs₀ mem₀ : List ℕ) (ready : PartsReady m parents sizes parts tablesEnd rowsEnd cs₀ mem₀) where
   pub families-none : Families m parts cs₀ tablesEnd rowsEnd
   unfolding firstFrom tableOf firstRowOf tableWords rowCount
   families-none =
       record {
         first = λ q h. ready .none q h ∙ ap (λ (k : ℕ). firstOr 0 (keep (childTest m q) (countFrom parts k))) (let none : 0 ≡ partCount m - parts = omega (arith, ready .count) in none);
         table-at = ready .tables ∙ rows-start m ∙ ap (λ (k : ℕ). tablesAt m + tableWordsBelow m k) (sym (ready .count));
-        row-at = ready .rows ∙ sym (rows-end m) ∙ ap (λ (k : ℕ). rowsAt m + 4 * rowsBelow m k) (sym (ready .count));
+        row-at = ready .rows ∙ sym (rows-end m) ∙ ap (λ (k : ℕ). rowsAt m + row·words * rowsBelow m k) (sym (ready .count));
       }
 
   pub parts-none : PartsStand m parts mem₀ mem₀
-  parts-none = subst (λ (k : ℕ). Written partsAt 8 parts k (partRecord m) mem₀ mem₀) (ready .count) (written-none partsAt 8 (partRecord m) parts mem₀)
+  parts-none = subst (λ (k : ℕ). Written partsAt part·words parts k (partRecord m) mem₀ mem₀) (ready .count) (written-none partsAt part·words (partRecord m) parts mem₀)
 
   module _ (p next size table table′ row row′ parent child sibling : ℕ) (cs cs′ mem mem′ : List ℕ) (more : next ≡ p + 1) (some : p < parts) (long : length cs ≡ length cs₀) (old : Families m next cs table row)
-      (is-size : word sizes p < 65536 → size ≡ word sizes p) (table-before : size * size ≤ table → table′ + size * size ≡ table) (row-before : 4 * size ≤ row → row′ + 4 * size ≡ row)
+      (is-size : word sizes p < 65536 → size ≡ word sizes p) (table-before : size * size ≤ table → table′ + size * size ≡ table) (row-before : row·words * size ≤ row → row′ + row·words * size ≡ row)
       (is-parent : parent ≡ word parents p) (is-child : child ≡ word cs p) (is-sibling : sibling ≡ word cs parent) (adopts : cs′ ≡ set cs parent p)
-      (stored : mem′ ≡ sets mem (64 + 8 * p) (partWords parent size row′ table′ child sibling)) where
+      (stored : mem′ ≡ sets mem (partAt p) (partWords parent size row′ table′ child sibling)) where
     here : p < partCount m
     here = omega (arith, ready .count)
 
@@ -95,7 +96,7 @@ module _ (m : Map) (parents sizes : List ℕ) (parts tablesEnd rowsEnd : ℕ) (c
     unfolding tableOf tableWordsBelow
     table-step = omega (arith, ap (tableOf m) later, sum-last (λ q. sizeOf m q * sizeOf m q) p, ap (λ (k : ℕ). k * k) size-is)
 
-    row-step : firstRowOf m next ≡ firstRowOf m p + 4 * size
+    row-step : firstRowOf m next ≡ firstRowOf m p + row·words * size
     unfolding firstRowOf rowsBelow
     row-step = omega (arith, ap (firstRowOf m) later, sum-last (sizeOf m) p, size-is)
 
@@ -162,14 +163,14 @@ module _ (m : Map) (parents sizes : List ℕ) (parts tablesEnd rowsEnd : ℕ) (c
     unfolding partRecord
     same-record = (λ i. partWords (parent-is i) (size-is i) (row-is i) (table-is i) (child-is i) (sibling-is i))
 
-    sized : length (partRecord m p) ≡ 8
+    sized : length (partRecord m p) ≡ part·words
     unfolding partRecord
     sized = refl
 
     parts-more : PartsStand m next mem₀ mem → PartsStand m p mem₀ mem′
     parts-more w =
-        written-down partsAt 8 (partRecord m) p next (partCount m) mem₀ mem mem′ more here sized (omega (arith, ready .room, w .long, here)) w
-        (stored ∙ ap (sets mem (64 + 8 * p)) same-record)
+        written-down partsAt part·words (partRecord m) p next (partCount m) mem₀ mem mem′ more here sized (omega (arith, ready .room, w .long, here)) w
+        (stored ∙ ap (sets mem (partAt p)) same-record)
 
     -- p in front of the children of its parent
     first-now : (q : ℕ) → q < length cs′ → word cs′ q ≡ firstFrom m q p
@@ -215,15 +216,15 @@ module _ (m : Map) (parents sizes : List ℕ) (parts tablesEnd rowsEnd : ℕ) (c
 module _ (m : Map) (sizes : List ℕ) (parts rowsEnd : ℕ) (given : Sized m sizes parts rowsEnd) where
   pub rows-last : rowsEnd ≡ firstRowOf m parts
   unfolding firstRowOf rowCount
-  rows-last = given .rows ∙ sym (rows-end m) ∙ ap (λ (k : ℕ). rowsAt m + 4 * rowsBelow m k) (sym (given .count))
+  rows-last = given .rows ∙ sym (rows-end m) ∙ ap (λ (k : ℕ). rowsAt m + row·words * rowsBelow m k) (sym (given .count))
 
-  pub rows-back : (p next size row row′ : ℕ) → next ≡ p + 1 → p < parts → (word sizes p < 65536 → size ≡ word sizes p) → (4 * size ≤ row → row′ + 4 * size ≡ row) → row ≡ firstRowOf m next → row′ ≡ firstRowOf m p
+  pub rows-back : (p next size row row′ : ℕ) → next ≡ p + 1 → p < parts → (word sizes p < 65536 → size ≡ word sizes p) → (row·words * size ≤ row → row′ + row·words * size ≡ row) → row ≡ firstRowOf m next → row′ ≡ firstRowOf m p
   unfolding firstRowOf rowsBelow
   rows-back p next size row row′ more some is-size back at =
       let here : p < partCount m = omega (arith, given .count) in
       let size-is : size ≡ sizeOf m p = is-size (omega (arith, given .shown p here, given .small p here)) ∙ given .shown p here in
       let later : next ≡ suc p = omega arith in
-      let one-on : firstRowOf m next ≡ firstRowOf m p + 4 * size = omega (arith, ap (firstRowOf m) later, sum-last (sizeOf m) p, size-is) in
+      let one-on : firstRowOf m next ≡ firstRowOf m p + row·words * size = omega (arith, ap (firstRowOf m) later, sum-last (sizeOf m) p, size-is) in
       omega (arith, at, one-on, back (omega (arith, at, one-on)))
 
   pub rows-first : (row : ℕ) → row ≡ firstRowOf m 0 → row ≡ rowsAt m

@@ -5,10 +5,11 @@ use Prim.Native.Nat.{ℕ, _+_, _*_, _≤_, _<_}
 use lib.ListN.{length}
 use Rattle.words.specs.Limits.{mostParts, NONE}
 use Rattle.words.specs.Lists.{word}
+use Rattle.layout.specs.Layout.{part·words, partsAt, verticesFrom}
 use Rattle.roads.specs.Map.{Map, partCount}
 use Rattle.parts.specs.Tree.{parentOf}
 use Rattle.parts.specs.Size.{sizeOf, need}
-use Rattle.image.specs.Places.{partsAt, rowsAt}
+use Rattle.image.specs.Places.{rowsAt}
 use Rattle.image.specs.Image.{partRecord}
 use Rattle.map_shown.specs.Shown.{ShowsParents, ShowsSizes}
 use Rattle.records.specs.Written.{Written}
@@ -25,7 +26,7 @@ pub record Sized (m : Map) (sizes : List ℕ) (parts rowsEnd : ℕ) : Type 0 whe
   pub small : (p : ℕ) → p < partCount m → sizeOf m p < 65536
 
 -- what is lent shows the parts of m and has room for them, and no part has a child yet
-pub record Ready (m : Map) (parents sizes : List ℕ) (parts tablesEnd rowsEnd : ℕ) (children mem : List ℕ) : Type 0 where
+pub record PartsReady (m : Map) (parents sizes : List ℕ) (parts tablesEnd rowsEnd : ℕ) (children mem : List ℕ) : Type 0 where
   pub count : parts ≡ partCount m
   pub tables : tablesEnd ≡ rowsAt m
   pub rows : rowsEnd ≡ need m
@@ -37,8 +38,8 @@ pub record Ready (m : Map) (parents sizes : List ℕ) (parts tablesEnd rowsEnd :
   pub wide : length children ≡ mostParts
   pub few : partCount m ≤ mostParts
   pub none : (q : ℕ) → q < length children → word children q ≡ 0
-  pub room : partsAt + 8 * partCount m ≤ length mem
+  pub room : verticesFrom (partCount m) ≤ length mem
 
 -- the records of the parts from p on
 abbrev pub PartsStand : Map → ℕ → List ℕ → List ℕ → Type 0
-PartsStand m p mem₀ mem = Written partsAt 8 p (partCount m) (partRecord m) mem₀ mem
+PartsStand m p mem₀ mem = Written partsAt part·words p (partCount m) (partRecord m) mem₀ mem

@@ -3,15 +3,28 @@
 use cells::put;
 use cells::wide;
 use cells::word;
+use layout::HeadRecord;
+use layout::PartRecord;
+use layout::RowRecord;
 use records::put4;
 ghost use mathlib.Core.Path.{_≡_};
 ghost use Prim.Native.Nat.{_+_, _<_, _≤_};
 ghost use lib.ListN.{set};
 ghost use lib.Seq.{sets};
+ghost use Rattle.words.specs.Limits.{mostParts};
 ghost use Rattle.words.specs.Lists.{word};
 ghost use Rattle.roads.specs.Map.{Map};
 ghost use Rattle.image.specs.Places.{rowsAt};
-ghost use Rattle.opening_parts.specs.Parts.{partWords, Sized, Ready, PartsStand};
+ghost use Rattle.opening_parts.specs.Parts.{partWords, Sized, PartsReady, PartsStand};
+
+const HEAD_WORDS: u32 = HeadRecord::WORDS as u32;
+
+const PART_WORDS: u32 = PartRecord::WORDS as u32;
+
+const ROW_WORDS: u32 = RowRecord::WORDS as u32;
+
+// The record's second half starts with the first child.
+const SECOND_HALF: u32 = PartRecord::CHILD as u32;
 
 // A size, whose square is below 2^32; 0 for a number that is none.
 fn limited(size: u32) -> u32
@@ -57,7 +70,7 @@ fn write_part(
     ensures { λ _. ⌜ now (mem .exit) ≡ sets (now (mem .entry)) at (partWords parent size row table child sibling) ⌝ }
 {
     put4(mem, at, parent, size, row, table);
-    put4(mem, at + 4, child, sibling, 0, 0);
+    put4(mem, at + SECOND_HALF, child, sibling, 0, 0);
 }
 
 // The parts of a map whose tables end where its rows begin, at `tables_end`, and whose rows end at `rows_end`; `children`, all 0 before, has a
@@ -71,8 +84,8 @@ pub fn write_parts(
     children: &mut [u32],
     mem: &mut [u32],
 )
-    requires { ⌜ parts ≤ 512 ⌝ }
-    ensures { λ _. ⌜ ((m : Map) → Ready m (now (parents .entry)) (now (sizes .entry)) parts «tables_end» «rows_end» (now (children .entry)) (now (mem .entry)) → PartsStand m 0 (now (mem .entry)) (now (mem .exit))) ⌝ }
+    requires { ⌜ parts ≤ mostParts ⌝ }
+    ensures { λ _. ⌜ ((m : Map) → PartsReady m (now (parents .entry)) (now (sizes .entry)) parts «tables_end» «rows_end» (now (children .entry)) (now (mem .entry)) → PartsStand m 0 (now (mem .entry)) (now (mem .exit))) ⌝ }
 {
     let mut table = tables_end;
     let mut row = rows_end;
@@ -81,11 +94,20 @@ pub fn write_parts(
         let p = next - 1;
         let size = limited(word(sizes, wide(p)));
         table = start_of(table, size * size);
-        row = start_of(row, 4 * size);
+        row = start_of(row, ROW_WORDS * size);
         let parent = word(parents, wide(p));
         let child = word(children, wide(p));
         let sibling = adopt(children, parent, p);
-        write_part(mem, 64 + 8 * p, parent, size, row, table, child, sibling);
+        write_part(
+            mem,
+            HEAD_WORDS + PART_WORDS * p,
+            parent,
+            size,
+            row,
+            table,
+            child,
+            sibling,
+        );
         next = p;
     }
 }
@@ -99,7 +121,7 @@ pub fn rows_begin(sizes: &[u32], parts: u32, rows_end: u32) -> u32
     while 0 < next {
         let p = next - 1;
         let size = limited(word(sizes, wide(p)));
-        row = start_of(row, 4 * size);
+        row = start_of(row, ROW_WORDS * size);
         next = p;
     }
     row

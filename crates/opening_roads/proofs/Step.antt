@@ -10,6 +10,7 @@ use lib.ListN.{length, drop, set, length-set, drop-of-length-le}
 use lib.Seq.{sets, drop-cons, getD-set-same, getD-set-other}
 use borrow.Author.Tests.{eq-eqb, ne-eqb}
 use Rattle.words.specs.Lists.{word, link}
+use Rattle.layout.specs.Layout.{road·words}
 use Rattle.roads.specs.Map.{Road, Map, roadCount, roadAt, noRoad}
 use Rattle.image.specs.Places.{roadsAt}
 use Rattle.image.specs.Image.{endsAt}
@@ -17,7 +18,7 @@ use Rattle.image.specs.Records.{roadRecord}
 use Rattle.maps.specs.Bytes.{field, roadShown}
 use Rattle.records.specs.Written.{Written}
 use Rattle.records.proofs.Written.{written-none, written-down}
-use Rattle.opening_roads.specs.Roads.{roadWords, Ready, RoadsStand}
+use Rattle.opening_roads.specs.Roads.{roadWords, RoadsReady, RoadsStand}
 
 -- what is read of a road, and stored
 pub road-stored : (body ins ins′ mem mem′ : List ℕ) (i at number from to weight end next : ℕ) → number ≡ i → from ≡ field body (8 * number) 2 → to ≡ field body (8 * number + 2) 2
@@ -39,16 +40,16 @@ road-stored body ins ins′ mem mem′ i at number from to weight end next n f t
     linked : next ≡ word ins (field body (8 * i + 2) 2)
     linked = l ∙ ap (word ins) (e ∙ second)
 
-module _ (m : Map) (body : List ℕ) (roads base : ℕ) (ins₀ mem₀ : List ℕ) (ready : Ready m body roads base ins₀ mem₀) where
+module _ (m : Map) (body : List ℕ) (roads base : ℕ) (ins₀ mem₀ : List ℕ) (ready : RoadsReady m body roads base ins₀ mem₀) where
   pub roads-none : RoadsStand m roads mem₀ ins₀ mem₀
   roads-none =
       record {
-        records = subst (λ (k : ℕ). Written (roadsAt m) 4 roads k (roadRecord m) mem₀ mem₀) (ready .count) (written-none (roadsAt m) 4 (roadRecord m) roads mem₀);
+        records = subst (λ (k : ℕ). Written (roadsAt m) road·words roads k (roadRecord m) mem₀ mem₀) (ready .count) (written-none (roadsAt m) road·words (roadRecord m) roads mem₀);
         links = λ v h. ready .none v h ∙ ap (link (endsAt v) roads) (sym (drop-of-length-le (m .roads) (let all : roadCount m ≤ roads = omega (arith, ready .count) in all)));
       }
 
   module _ (i next : ℕ) (ins ins′ mem mem′ : List ℕ) (more : next ≡ i + 1) (some : i < roads) (long : length ins ≡ length ins₀) (old : RoadsStand m next mem₀ ins mem)
-      (stored : mem′ ≡ sets mem (base + 4 * i) (roadWords (roadShown body i) (word ins (roadShown body i .to)))) (pushed : ins′ ≡ set ins (roadShown body i .to) (i + 1)) where
+      (stored : mem′ ≡ sets mem (base + road·words * i) (roadWords (roadShown body i) (word ins (roadShown body i .to)))) (pushed : ins′ ≡ set ins (roadShown body i .to) (i + 1)) where
     here : i < roadCount m
     here = omega (arith, ready .count)
 
@@ -67,7 +68,7 @@ module _ (m : Map) (body : List ℕ) (roads base : ℕ) (ins₀ mem₀ : List �
         ap (λ (x : Road). roadWords x (word ins (x .to))) is-road
         ∙ ap (roadWords r) (old .links (r .to) end-room ∙ ap (λ (k : ℕ). link (endsAt (r .to)) k (drop k (m .roads))) (let one : next ≡ suc i = omega arith in one))
 
-    sized : length (roadRecord m i) ≡ 4
+    sized : length (roadRecord m i) ≡ road·words
     unfolding roadRecord
     sized = refl
 
@@ -100,7 +101,7 @@ module _ (m : Map) (body : List ℕ) (roads base : ℕ) (ins₀ mem₀ : List �
     roads-more =
         record {
           records =
-              written-down (roadsAt m) 4 (roadRecord m) i next (roadCount m) mem₀ mem mem′ more here sized (omega (arith, ready .room, old .records .long)) (old .records)
-              (stored ∙ ap₂ (λ (k : ℕ) (l : List ℕ). sets mem (k + 4 * i) l) (ready .start) same-record);
+              written-down (roadsAt m) road·words (roadRecord m) i next (roadCount m) mem₀ mem mem′ more here sized (omega (arith, ready .room, old .records .long)) (old .records)
+              (stored ∙ ap₂ (λ (k : ℕ) (l : List ℕ). sets mem (k + road·words * i) l) (ready .start) same-record);
           links = links-now;
         }

@@ -10,6 +10,7 @@ use Rattle.words.specs.Lists.{upTo, placeIn, any, keep}
 use Rattle.words.specs.Ranks.{rank}
 use Rattle.words.proofs.Sums.{sum-below}
 use Rattle.words.proofs.Ranks.{rank-none, rank-kept, rank-left, rank-less, rank-place}
+use Rattle.layout.specs.Layout.{row·words}
 use Rattle.roads.specs.Map.{Map, partCount}
 use Rattle.parts.specs.Tree.{leafOf, children, isLeaf, verticesOf}
 use Rattle.parts.specs.Border.{boundary, borders}
@@ -40,15 +41,15 @@ module _ (m : Map) (p : ℕ) where
 
   pub place-row : (v : ℕ) → v < m .vertices → hasRow m p v ≡ true → rowAt m p v ≡ rowPlace m p v
   unfolding rowAt rowPlace
-  place-row v h e = ap (λ (i : ℕ). firstRowOf m p + 4 * i) (ap (placeIn v) rows-kept ∙ rank-place (hasRow m p) v (m .vertices) h e)
+  place-row v h e = ap (λ (i : ℕ). firstRowOf m p + row·words * i) (ap (placeIn v) rows-kept ∙ rank-place (hasRow m p) v (m .vertices) h e)
 
   -- a row stands within its part's rows
-  pub place-within : (v : ℕ) → v < m .vertices → hasRow m p v ≡ true → (firstRowOf m p ≤ rowPlace m p v) × (rowPlace m p v + 4 ≤ firstRowOf m p + 4 * sizeOf m p)
+  pub place-within : (v : ℕ) → v < m .vertices → hasRow m p v ≡ true → (firstRowOf m p ≤ rowPlace m p v) × (rowPlace m p v + row·words ≤ firstRowOf m p + row·words * sizeOf m p)
   unfolding rowPlace
   place-within v h e = (omega arith, omega (arith, rank-less (hasRow m p) v (m .vertices) h e, rank-size))
 
   -- the next row's place
-  pub place-next : (v : ℕ) → hasRow m p v ≡ true → rowPlace m p (suc v) ≡ rowPlace m p v + 4
+  pub place-next : (v : ℕ) → hasRow m p v ≡ true → rowPlace m p (suc v) ≡ rowPlace m p v + row·words
   unfolding rowPlace
   place-next v e = omega (arith, rank-kept (hasRow m p) v e)
 
@@ -57,13 +58,13 @@ module _ (m : Map) (p : ℕ) where
   place-left v e = omega (arith, rank-left (hasRow m p) v e)
 
   -- rows of two vertices, the lower first
-  pub place-rises : (u v : ℕ) → u < v → hasRow m p u ≡ true → rowPlace m p u + 4 ≤ rowPlace m p v
+  pub place-rises : (u v : ℕ) → u < v → hasRow m p u ≡ true → rowPlace m p u + row·words ≤ rowPlace m p v
   unfolding rowPlace
   place-rises u v h e = omega (arith, rank-less (hasRow m p) u v h e)
 
 module _ (m : Map) where
   -- the rows of two parts, the lower first
-  pub part-rises : (p q : ℕ) → p < q → firstRowOf m p + 4 * sizeOf m p ≤ firstRowOf m q
+  pub part-rises : (p q : ℕ) → p < q → firstRowOf m p + row·words * sizeOf m p ≤ firstRowOf m q
   unfolding firstRowOf rowsBelow
   part-rises p q h = omega (arith, sum-below (sizeOf m) p q h)
 
@@ -72,6 +73,6 @@ module _ (m : Map) where
   unfolding firstRowOf
   part-from p = omega arith
 
-  pub part-to : (p : ℕ) → p < partCount m → firstRowOf m p + 4 * sizeOf m p ≤ need m
+  pub part-to : (p : ℕ) → p < partCount m → firstRowOf m p + row·words * sizeOf m p ≤ need m
   unfolding firstRowOf rowsBelow rowCount
   part-to p h = omega (arith, sum-below (sizeOf m) p (partCount m) h, rows-end m)

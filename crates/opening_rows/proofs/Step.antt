@@ -11,10 +11,11 @@ use lib.ListN.{length, set, length-set}
 use lib.Seq.{sets, length-sets, getD-set-same, getD-set-other}
 use lib.Dec.{ltb, leb}
 use borrow.Author.Tests.{lt-ltb, le-ltb, le-leb, lt-leb}
-use Rattle.words.specs.Limits.{mostParts}
+use Rattle.words.specs.Limits.{mostParts, NONE, FAR}
 use Rattle.words.specs.Lists.{word}
 use Rattle.words.proofs.Tests.{true-or-false}
 use Rattle.words.proofs.Stores.{stored-in, stored-out}
+use Rattle.layout.specs.Layout.{part·rows, vertex·words, vertex·itself, row·words, row·child, partWord}
 use Rattle.roads.specs.Map.{Map, partCount}
 use Rattle.roads.proofs.Trail.{Net}
 use Rattle.parts.specs.Tree.{parentOf, leafOf, holds}
@@ -25,17 +26,17 @@ use Rattle.maps.proofs.Distances.{sound-net, sound-tree}
 use Rattle.image.specs.Places.{itselfAt, firstRowOf, rowAt}
 use Rattle.image.specs.Image.{partBelow, rowBelow}
 use Rattle.opening_fresh.specs.Fresh.{freshRow}
-use Rattle.opening_rows.specs.Rows.{hasRow, rowPlace, rowWords, RowWritten, Standing, RowsStand, FirstRows, Ready}
+use Rattle.opening_rows.specs.Rows.{hasRow, rowPlace, rowWords, RowWritten, Standing, RowsStand, FirstRows, RowsReady}
 use Rattle.opening_rows.proofs.Places.{place-first, place-row, place-within, place-next, place-left, place-rises, part-rises, part-from, part-to}
 use Rattle.opening_rows.proofs.Way.{row-in-leaf, leaf-below, below-small, row-holds, no-later, row-part, parent-lower, parent-row, parent-holds, parent-below, no-more}
 
 -- the stores of `write_row`
-pub row-stored : (mem mem′ cursors cursors′ : List ℕ) (part v child below place at tag next : ℕ) → place ≡ part → at ≡ word cursors place → (v < 65536 → child < 65536 → tag ≡ v + 65536 * child)
-    → mem′ ≡ sets mem at (65535 ∷ 4294967295 ∷ tag ∷ below ∷ []) → next ≡ (at + 4) % 2 ^ 32 → cursors′ ≡ set cursors place next → RowWritten mem cursors part v child below at mem′ cursors′
+pub row-stored : (mem mem′ cursors cursors′ : List ℕ) (part v child below place at tag next : ℕ) → place ≡ part → at ≡ word cursors place → (v < row·child → child < row·child → tag ≡ v + row·child * child)
+    → mem′ ≡ sets mem at (NONE ∷ FAR ∷ tag ∷ below ∷ []) → next ≡ (at + row·words) % 2 ^ 32 → cursors′ ≡ set cursors place next → RowWritten mem cursors part v child below at mem′ cursors′
 row-stored mem mem′ cursors cursors′ part v child below place at tag next p a t s n e =
     record {
       place = a ∙ ap (word cursors) p;
-      stored = λ hv hc. s ∙ ap (λ (x : ℕ). sets mem at (65535 ∷ 4294967295 ∷ x ∷ below ∷ [])) (t hv hc);
+      stored = λ hv hc. s ∙ ap (λ (x : ℕ). sets mem at (NONE ∷ FAR ∷ x ∷ below ∷ [])) (t hv hc);
       next = e ∙ ap₂ (λ (i x : ℕ). set cursors i x) p n;
     }
 
@@ -75,56 +76,56 @@ rest-same m v rest rest′ start cursors mem same s =
 -- The row of v in part p, which was left to write.
 module _ (m : Map) (small : need m < 2 ^ 32) (few : partCount m ≤ mostParts) (v p : ℕ) (hv : v < m .vertices) (hp : p < partCount m) (has : hasRow m p v ≡ true) (rest rest′ : ℕ → Bool)
     (was : rest p ≡ true) (is : rest′ p ≡ false) (others : (q : ℕ) → q ≢ p → rest q ≡ rest′ q) (start cursors cursors′ mem mem′ : List ℕ) (r : ℕ) (s : RowsStand m v rest start cursors mem)
-    (is-place : r ≡ word cursors p) (stored : mem′ ≡ sets mem r (freshRow m p v)) (next : cursors′ ≡ set cursors p ((r + 4) % 2 ^ 32)) where
+    (is-place : r ≡ word cursors p) (stored : mem′ ≡ sets mem r (freshRow m p v)) (next : cursors′ ≡ set cursors p ((r + row·words) % 2 ^ 32)) where
   at-place : r ≡ rowPlace m p v
   at-place = is-place ∙ s .cursor p hp ∙ ap (λ (b : Bool). rowPlace m p (cond b v (suc v))) was
 
-  inside : (firstRowOf m p ≤ r) × (r + 4 ≤ firstRowOf m p + 4 * sizeOf m p)
+  inside : (firstRowOf m p ≤ r) × (r + row·words ≤ firstRowOf m p + row·words * sizeOf m p)
   inside = let w = place-within m p v hv has in (omega (arith, at-place, w .0), omega (arith, at-place, w .1))
 
-  sized : length (freshRow m p v) ≡ 4
+  sized : length (freshRow m p v) ≡ row·words
   unfolding freshRow
   sized = refl
 
   fits : r + length (freshRow m p v) ≤ length mem
   fits = omega (arith, sized, inside .1, part-to m p hp, s .long, s .room)
 
-  one-on : rowPlace m p (suc v) ≡ r + 4
-  one-on = (let on : rowPlace m p (suc v) ≡ rowPlace m p v + 4 = place-next m p v has in on) ∙ ap (λ (k : ℕ). k + 4) (sym at-place)
+  one-on : rowPlace m p (suc v) ≡ r + row·words
+  one-on = (let on : rowPlace m p (suc v) ≡ rowPlace m p v + row·words = place-next m p v has in on) ∙ ap (λ (k : ℕ). k + row·words) (sym at-place)
 
-  next-is : (r + 4) % 2 ^ 32 ≡ rowPlace m p (suc v)
+  next-is : (r + row·words) % 2 ^ 32 ≡ rowPlace m p (suc v)
   next-is = omega (arith, one-on, inside .1, part-to m p hp, small)
 
   cursor-now : (q : ℕ) → q < partCount m → Dec (q ≡ p) → word cursors′ q ≡ rowPlace m q (cond (rest′ q) v (suc v))
   cursor-now q h (yes same) =
       ap₂ (λ (l : List ℕ) (i : ℕ). word l i) next same
-      ∙ getD-set-same cursors p ((r + 4) % 2 ^ 32) 0 (omega (arith, s .wide, hp, few))
+      ∙ getD-set-same cursors p ((r + row·words) % 2 ^ 32) 0 (omega (arith, s .wide, hp, few))
       ∙ next-is
       ∙ sym (ap (λ (k : ℕ). rowPlace m k (cond (rest′ k) v (suc v))) same ∙ ap (λ (b : Bool). rowPlace m p (cond b v (suc v))) is)
   cursor-now q h (no other) =
       ap (λ (l : List ℕ). word l q) next
-      ∙ getD-set-other cursors p q ((r + 4) % 2 ^ 32) 0 other
+      ∙ getD-set-other cursors p q ((r + row·words) % 2 ^ 32) 0 other
       ∙ s .cursor q h
       ∙ ap (λ (b : Bool). rowPlace m q (cond b v (suc v))) (others q other)
 
   -- a word that this row does not have
-  elsewhere : (i : ℕ) → ((j : ℕ) → j < 4 → i ≡ r + j → ⊥) → word mem′ i ≡ word mem i
+  elsewhere : (i : ℕ) → ((j : ℕ) → j < row·words → i ≡ r + j → ⊥) → word mem′ i ≡ word mem i
   elsewhere i away = ap (λ (l : List ℕ). word l i) stored ∙ stored-out mem r (freshRow m p v) i (λ j h e. away j (omega (arith, sized)) e)
 
-  this-row : (w : ℕ) → w < 4 → word mem′ (rowPlace m p v + w) ≡ word (freshRow m p v) w
+  this-row : (w : ℕ) → w < row·words → word mem′ (rowPlace m p v + w) ≡ word (freshRow m p v) w
   this-row w hw =
       ap (λ (k : ℕ). word mem′ (k + w)) (sym at-place)
       ∙ ap (λ (l : List ℕ). word l (r + w)) stored
       ∙ stored-in mem r (freshRow m p v) w (omega (arith, sized)) fits
 
-  right-now : (q u w : ℕ) → q < partCount m → u < cond (rest′ q) v (suc v) → hasRow m q u ≡ true → w < 4 → Dec (q ≡ p) → Dec (u ≡ v) → word mem′ (rowPlace m q u + w) ≡ word (freshRow m q u) w
+  right-now : (q u w : ℕ) → q < partCount m → u < cond (rest′ q) v (suc v) → hasRow m q u ≡ true → w < row·words → Dec (q ≡ p) → Dec (u ≡ v) → word mem′ (rowPlace m q u + w) ≡ word (freshRow m q u) w
   right-now q u w h below e hw (yes same) (yes same-vertex) =
       subst (λ (k : ℕ). word mem′ (rowPlace m k u + w) ≡ word (freshRow m k u) w) (sym same)
       (subst (λ (k : ℕ). word mem′ (rowPlace m p k + w) ≡ word (freshRow m p k) w) (sym same-vertex) (this-row w hw))
   right-now q u w h below e hw (yes same) (no other) =
       let has-here : hasRow m p u ≡ true = subst (λ (k : ℕ). hasRow m k u ≡ true) same e in
       let near : u < v = lower (rest′ q) below other in
-      let before-it : rowPlace m p u + 4 ≤ rowPlace m p v = place-rises m p u v near has-here in
+      let before-it : rowPlace m p u + row·words ≤ rowPlace m p v = place-rises m p u v near has-here in
       subst (λ (k : ℕ). word mem′ (rowPlace m k u + w) ≡ word (freshRow m k u) w) (sym same)
       (elsewhere (rowPlace m p u + w) (λ j hj at. omega (arith, before-it, at-place, at)) ∙ s .right p u w hp (subst (λ (b : Bool). u < cond b v (suc v)) (sym was) near) has-here hw)
     where
@@ -140,7 +141,7 @@ module _ (m : Map) (small : need m < 2 ^ 32) (few : partCount m ≤ mostParts) (
       lower true k = omega (arith, hv)
       lower false k = omega (arith, hv)
 
-      apart : firstRowOf m q ≤ rowPlace m q u → rowPlace m q u + 4 ≤ firstRowOf m q + 4 * sizeOf m q → (j : ℕ) → j < 4 → rowPlace m q u + w ≡ r + j → Dec (q < p) → ⊥
+      apart : firstRowOf m q ≤ rowPlace m q u → rowPlace m q u + row·words ≤ firstRowOf m q + row·words * sizeOf m q → (j : ℕ) → j < row·words → rowPlace m q u + w ≡ r + j → Dec (q < p) → ⊥
       apart low high j hj at (yes less) = omega (arith, part-rises m q p less, inside .0)
       apart low high j hj at (no more) = omega (arith, part-rises m p q (omega (arith, more, other)), inside .1)
 
@@ -149,7 +150,7 @@ module _ (m : Map) (small : need m < 2 ^ 32) (few : partCount m ≤ mostParts) (
       record {
         long = ap length stored ∙ length-sets mem r (freshRow m p v) ∙ s .long;
         room = s .room;
-        wide = ap length next ∙ length-set cursors p ((r + 4) % 2 ^ 32) ∙ s .wide;
+        wide = ap length next ∙ length-set cursors p ((r + row·words) % 2 ^ 32) ∙ s .wide;
         cursor = λ q h. cursor-now q h (ℕ-discrete q p);
         right = λ q u w h below e hw. right-now q u w h below e hw (ℕ-discrete q p) (ℕ-discrete u v);
         kept = λ i h. elsewhere i (λ j hj at. omega (arith, part-from m p, inside .0)) ∙ s .kept i h;
@@ -184,9 +185,9 @@ module _ (m : Map) (parents : List ℕ) (leaf lift v itself : ℕ) (st : Standin
   leaf-in : leaf < partCount m
   leaf-in = omega (arith, st .leaf-is, tree .leaf-part v hv)
 
-  pub climbing-start : (start cursors mem : List ℕ) → RowsStand m v (λ q. true) start cursors mem → Climbing m v leaf 0 itself 512 start cursors mem
+  pub climbing-start : (start cursors mem : List ℕ) → RowsStand m v (λ q. true) start cursors mem → Climbing m v leaf 0 itself mostParts start cursors mem
   climbing-start start cursors mem s =
-      subst (λ (k : ℕ). Climbing m v k 0 itself 512 start cursors mem) (sym (st .leaf-is))
+      subst (λ (k : ℕ). Climbing m v k 0 itself mostParts start cursors mem) (sym (st .leaf-is))
       (record {
         rows = rest-same m v (λ q. true) (leftFrom m v (leafOf m v)) start cursors mem (λ q h. by q (true-or-false (hasRow m q v))) s;
         inside = in-own-leaf m v hv;
@@ -209,7 +210,7 @@ module _ (m : Map) (parents : List ℕ) (leaf lift v itself : ℕ) (st : Standin
     unfolding freshRow
     same-row = ap₂ (λ (x y : ℕ). rowWords v x y) (c .child-is) (c .below-is)
 
-    child-small : child < 65536
+    child-small : child < row·child
     child-small = omega (arith, c .child-is, below-small m part v few tree)
 
     -- the rows left are those further up
@@ -271,26 +272,26 @@ module _ (m : Map) (parents : List ℕ) (leaf lift v itself : ℕ) (st : Standin
 pub first-none : (mem cursors : List ℕ) → FirstRows mem 0 cursors cursors
 first-none mem cursors = record { long = refl; first = λ p h k. absurd (omega arith) }
 
-pub first-more : (mem start cursors cursors′ : List ℕ) (p at address x : ℕ) → FirstRows mem p start cursors → at ≡ p → address ≡ 64 + 8 * p + 2 → x ≡ word mem address → cursors′ ≡ set cursors at x
+pub first-more : (mem start cursors cursors′ : List ℕ) (p at x : ℕ) → FirstRows mem p start cursors → at ≡ p → x ≡ partWord mem p part·rows → cursors′ ≡ set cursors at x
     → FirstRows mem (p + 1) start cursors′
-first-more mem start cursors cursors′ p at address x f a d e s =
+first-more mem start cursors cursors′ p at x f a e s =
     record { long = ap length s ∙ length-set cursors at x ∙ f .long; first = λ q h k. by q k (omega arith) (ℕ-discrete q p) }
   where
-    stored : cursors′ ≡ set cursors p (word mem (64 + 8 * p + 2))
-    stored = s ∙ ap₂ (λ (i y : ℕ). set cursors i y) a (e ∙ ap (word mem) d)
+    stored : cursors′ ≡ set cursors p (partWord mem p part·rows)
+    stored = s ∙ ap₂ (λ (i y : ℕ). set cursors i y) a e
 
-    by : (q : ℕ) → q < length start → q < p + 1 → Dec (q ≡ p) → word cursors′ q ≡ word mem (64 + 8 * q + 2)
+    by : (q : ℕ) → q < length start → q < p + 1 → Dec (q ≡ p) → word cursors′ q ≡ partWord mem q part·rows
     by q k h (yes same) =
         ap₂ (λ (l : List ℕ) (i : ℕ). word l i) stored same
-        ∙ getD-set-same cursors p (word mem (64 + 8 * p + 2)) 0 (omega (arith, f .long))
-        ∙ ap (λ (i : ℕ). word mem (64 + 8 * i + 2)) (sym same)
+        ∙ getD-set-same cursors p (partWord mem p part·rows) 0 (omega (arith, f .long))
+        ∙ ap (λ (i : ℕ). partWord mem i part·rows) (sym same)
     by q k h (no other) =
         ap (λ (l : List ℕ). word l q) stored
-        ∙ getD-set-other cursors p q (word mem (64 + 8 * p + 2)) 0 other
+        ∙ getD-set-other cursors p q (partWord mem p part·rows) 0 other
         ∙ f .first q (omega (arith, other)) k
 
 -- Before the first vertex, each part's next place is its first.
-module _ (m : Map) (parents leaves lifts : List ℕ) (vertices base : ℕ) (cursors mem : List ℕ) (ready : Ready m parents leaves lifts vertices base cursors mem) where
+module _ (m : Map) (parents leaves lifts : List ℕ) (vertices base : ℕ) (cursors mem : List ℕ) (ready : RowsReady m parents leaves lifts vertices base cursors mem) where
   pub rows-none : RowsStand m 0 (λ q. true) mem cursors mem
   rows-none =
       record {
@@ -302,7 +303,7 @@ module _ (m : Map) (parents leaves lifts : List ℕ) (vertices base : ℕ) (curs
         kept = λ i h. refl;
       }
 
-  pub standing : (v leaf lift itself : ℕ) → v < vertices → leaf ≡ word leaves v → lift ≡ word lifts v → itself ≡ base + 8 * v + 5 → Standing m parents leaf lift v itself
+  pub standing : (v leaf lift itself : ℕ) → v < vertices → leaf ≡ word leaves v → lift ≡ word lifts v → itself ≡ base + vertex·words * v + vertex·itself → Standing m parents leaf lift v itself
   unfolding itselfAt
   standing v leaf lift itself h l f i =
       let hv : v < m .vertices = omega (arith, ready .count) in

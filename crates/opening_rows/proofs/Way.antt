@@ -12,6 +12,7 @@ use Rattle.words.specs.Limits.{mostParts}
 use Rattle.words.specs.Lists.{any, keep, firstOr}
 use Rattle.words.proofs.Tests.{both-true, both-pass}
 use Rattle.words.proofs.Lists.{any-by, any-says, keep-says}
+use Rattle.layout.specs.Layout.{row·child}
 use Rattle.roads.specs.Map.{Map, partCount}
 use Rattle.parts.specs.Tree.{parentOf, leafOf, holds, children, childOf, isLeaf}
 use Rattle.parts.specs.Border.{boundary}
@@ -24,17 +25,17 @@ use Rattle.image.specs.Image.{partBelow, rowBelow}
 use Rattle.opening_rows.specs.Rows.{hasRow}
 
 -- the part further down is a part
-pub below-small : (m : Map) (p v : ℕ) → partCount m ≤ mostParts → Tree m → partBelow m p v < 65536
+pub below-small : (m : Map) (p v : ℕ) → partCount m ≤ mostParts → Tree m → partBelow m p v < row·child
 unfolding partBelow childOf
 below-small m p v few tree = by (isLeaf m p) (keep (λ c. holds m c v) (children m p)) refl
   where
-    from : (cs : List ℕ) → keep (λ c. holds m c v) (children m p) ≡ cs → firstOr 0 cs < 65536
+    from : (cs : List ℕ) → keep (λ c. holds m c v) (children m p) ≡ cs → firstOr 0 cs < row·child
     from [] e = omega arith
     from (c ∷ cs) e =
         let kept = keep-says (λ k. holds m k v) (children m p) c (subst⁻¹ (λ (l : List ℕ). List·Memᴰ c l) e (List·Memᴰ·head refl)) in
         omega (arith, children-says m p c (kept .0) .0)
 
-    by : (leaf : Bool) (cs : List ℕ) → keep (λ c. holds m c v) (children m p) ≡ cs → cond leaf 0 (firstOr 0 cs) < 65536
+    by : (leaf : Bool) (cs : List ℕ) → keep (λ c. holds m c v) (children m p) ≡ cs → cond leaf 0 (firstOr 0 cs) < row·child
     by true cs e = omega arith
     by false cs e = from cs e
 

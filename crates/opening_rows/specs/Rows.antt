@@ -9,6 +9,7 @@ use lib.Dec.{eqb, ltb}
 use Rattle.words.specs.Limits.{mostParts, NONE, FAR}
 use Rattle.words.specs.Lists.{word, any}
 use Rattle.words.specs.Ranks.{rank}
+use Rattle.layout.specs.Layout.{part·rows, row·words, row·child, partWord}
 use Rattle.roads.specs.Map.{Map, partCount}
 use Rattle.parts.specs.Tree.{leafOf, holds, children, isLeaf}
 use Rattle.parts.specs.Border.{boundary}
@@ -24,17 +25,17 @@ hasRow m p v = cond (isLeaf m p) (eqb (leafOf m v) p) (any (λ c. boundary m c v
 
 -- where the row of v stands, if it has one: after the rows of the vertices below it
 unfoldable pub rowPlace : Map → ℕ → ℕ → ℕ
-rowPlace m p v = firstRowOf m p + 4 * rank (hasRow m p) v
+rowPlace m p v = firstRowOf m p + row·words * rank (hasRow m p) v
 
 -- an empty row of v, with the part and the row further down
 abbrev pub rowWords : ℕ → ℕ → ℕ → List ℕ
-rowWords v child below = NONE ∷ FAR ∷ (v + 65536 * child) ∷ below ∷ []
+rowWords v child below = NONE ∷ FAR ∷ (v + row·child * child) ∷ below ∷ []
 
 -- one row is written at the part's next place, r
 pub record RowWritten (mem cursors : List ℕ) (part v child below r : ℕ) (mem′ cursors′ : List ℕ) : Type 0 where
   pub place : r ≡ word cursors part
-  pub stored : v < 65536 → child < 65536 → mem′ ≡ sets mem r (rowWords v child below)
-  pub next : cursors′ ≡ set cursors part ((r + 4) % 2 ^ 32)
+  pub stored : v < row·child → child < row·child → mem′ ≡ sets mem r (rowWords v child below)
+  pub next : cursors′ ≡ set cursors part ((r + row·words) % 2 ^ 32)
 
 -- what is known of vertex v
 pub record Standing (m : Map) (parents : List ℕ) (leaf lift v itself : ℕ) : Type 0 where
@@ -52,16 +53,16 @@ pub record RowsStand (m : Map) (v : ℕ) (rest : ℕ → Bool) (start cursors me
   pub room : need m ≤ length start
   pub wide : length cursors ≡ mostParts
   pub cursor : (q : ℕ) → q < partCount m → word cursors q ≡ rowPlace m q (cond (rest q) v (suc v))
-  pub right : (q u w : ℕ) → q < partCount m → u < cond (rest q) v (suc v) → hasRow m q u ≡ true → w < 4 → word mem (rowPlace m q u + w) ≡ word (freshRow m q u) w
+  pub right : (q u w : ℕ) → q < partCount m → u < cond (rest q) v (suc v) → hasRow m q u ≡ true → w < row·words → word mem (rowPlace m q u + w) ≡ word (freshRow m q u) w
   pub kept : (i : ℕ) → i < rowsAt m → word mem i ≡ word start i
 
--- the words 2 of the parts' records
+-- where the rows of the parts start
 pub record FirstRows (mem : List ℕ) (parts : ℕ) (cursors cursors′ : List ℕ) : Type 0 where
   pub long : length cursors′ ≡ length cursors
-  pub first : (p : ℕ) → p < parts → p < length cursors → word cursors′ p ≡ word mem (64 + 8 * p + 2)
+  pub first : (p : ℕ) → p < parts → p < length cursors → word cursors′ p ≡ partWord mem p part·rows
 
 -- what is lent shows the vertices and parts of m and has room for its rows
-pub record Ready (m : Map) (parents leaves lifts : List ℕ) (vertices base : ℕ) (cursors mem : List ℕ) : Type 0 where
+pub record RowsReady (m : Map) (parents leaves lifts : List ℕ) (vertices base : ℕ) (cursors mem : List ℕ) : Type 0 where
   pub sound : Sound m
   pub small : need m < 2 ^ 32
   pub count : vertices ≡ m .vertices

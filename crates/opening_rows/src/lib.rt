@@ -3,6 +3,10 @@
 use cells::put;
 use cells::wide;
 use cells::word;
+use layout::PartRecord;
+use layout::RowRecord;
+use layout::VertexRecord;
+use layout::part_word;
 use records::put4;
 use rows::Row;
 use std::num::wrapping_add_u32;
@@ -10,16 +14,24 @@ ghost use mathlib.Core.Path.{_≡_};
 ghost use mathlib.Core.Bool.{true};
 ghost use mathlib.Core.List.{List};
 ghost use Prim.Native.Nat.{ℕ, suc, _+_, _*_, _<_, _≤_};
+ghost use Rattle.words.specs.Limits.{mostVertices, mostParts};
+ghost use Rattle.layout.specs.Layout.{row·child};
 ghost use Rattle.roads.specs.Map.{Map};
-ghost use Rattle.opening_rows.specs.Rows.{RowWritten, Standing, Ready, RowsStand, FirstRows};
+ghost use Rattle.opening_rows.specs.Rows.{RowWritten, Standing, RowsReady, RowsStand, FirstRows};
+
+const VERTEX_WORDS: u32 = VertexRecord::WORDS as u32;
+
+const ITSELF: u32 = VertexRecord::ITSELF as u32;
+
+const ROW_WORDS: u32 = RowRecord::WORDS as u32;
 
 // The word of a row that has its own vertex and the part further down.
 fn own(v: u32, child: u32) -> u32
-    ensures { λ r. ⌜ (v < 65536 → child < 65536 → r ≡ v + 65536 * child) ⌝ }
+    ensures { λ r. ⌜ (v < row·child → child < row·child → r ≡ v + row·child * child) ⌝ }
 {
-    if v < 65536 {
-        if child < 65536 {
-            return v + 65536 * child;
+    if v < RowRecord::CHILD {
+        if child < RowRecord::CHILD {
+            return v + RowRecord::CHILD * child;
         }
     }
     0
@@ -32,7 +44,7 @@ fn write_row(mem: &mut [u32], cursors: &mut [u32], part: u32, v: u32, child: u32
     let place = wide(part);
     let at = word(cursors, place);
     put4(mem, at, Row::NO_VERTEX, Row::FAR, own(v, child), below);
-    put(cursors, place, wrapping_add_u32(at, 4));
+    put(cursors, place, wrapping_add_u32(at, ROW_WORDS));
     at
 }
 
@@ -66,12 +78,12 @@ fn climb(
 
 // The address of the first row of each part, from the parts' records.
 pub fn first_rows(mem: &[u32], parts: u32, cursors: &mut [u32])
-    requires { ⌜ parts ≤ 512 ⌝ }
+    requires { ⌜ parts ≤ mostParts ⌝ }
     ensures { λ _. ⌜ FirstRows (now (mem .entry)) parts (now (cursors .entry)) (now (cursors .exit)) ⌝ }
 {
     let mut p: u32 = 0;
     while p < parts {
-        put(cursors, wide(p), word(mem, wide(64 + 8 * p + 2)));
+        put(cursors, wide(p), part_word(mem, p, PartRecord::ROWS));
         p += 1;
     }
 }
@@ -86,14 +98,22 @@ pub fn write_rows(
     cursors: &mut [u32],
     mem: &mut [u32],
 )
-    requires { ⌜ (vertices ≤ 4096) × (base ≤ 65536) ⌝ }
-    ensures { λ _. ⌜ ((m : Map) → Ready m (now (parents .entry)) (now (leaves .entry)) (now (lifts .entry)) vertices base (now (cursors .entry)) (now (mem .entry)) → RowsStand m vertices (λ q. true) (now (mem .entry)) (now (cursors .exit)) (now (mem .exit))) ⌝ }
+    requires { ⌜ (vertices ≤ mostVertices) × (base ≤ 65536) ⌝ }
+    ensures { λ _. ⌜ ((m : Map) → RowsReady m (now (parents .entry)) (now (leaves .entry)) (now (lifts .entry)) vertices base (now (cursors .entry)) (now (mem .entry)) → RowsStand m vertices (λ q. true) (now (mem .entry)) (now (cursors .exit)) (now (mem .exit))) ⌝ }
 {
     let mut v: u32 = 0;
     while v < vertices {
         let leaf = word(leaves, wide(v));
         let lift = word(lifts, wide(v));
-        climb(parents, leaf, lift, v, base + 8 * v + 5, cursors, mem);
+        climb(
+            parents,
+            leaf,
+            lift,
+            v,
+            base + VERTEX_WORDS * v + ITSELF,
+            cursors,
+            mem,
+        );
         v += 1;
     }
 }

@@ -24,7 +24,7 @@ use Rattle.opening_parts.specs.Parts as parts-specs
 use Rattle.opening_roads.specs.Roads as roads-specs
 use Rattle.opening_vertices.specs.Vertices as vertices-specs
 use Rattle.opening_rows.specs.Rows as rows-specs
-use Rattle.opening_sections.specs.Sections.{Shown, NetStands, RowsDone}
+use Rattle.opening_sections.specs.Sections.{MapShown, NetStands, RowsDone}
 
 -- a leaf has at most 32 vertices, a part with children at most 128 borders
 pub size-small : (m : Map) → Sound m → (p : ℕ) → p < partCount m → sizeOf m p < 65536
@@ -35,12 +35,12 @@ size-small m sound p h = by (isLeaf m p) refl
     by true e = omega (arith, sound .part p h .leaf e .1)
     by false e = omega (arith, sound .part p h .borders e)
 
-module _ (m : Map) (parents leaves body lifts sizes : List ℕ) (vertices roads parts used : ℕ) (shown : Shown m parents leaves body lifts sizes vertices roads parts used) (mem : List ℕ) (long : length mem ≡ used) where
+module _ (m : Map) (parents leaves body lifts sizes : List ℕ) (vertices roads parts used : ℕ) (shown : MapShown m parents leaves body lifts sizes vertices roads parts used) (mem : List ℕ) (long : length mem ≡ used) where
   pub parts-sized : parts-specs.Sized m sizes parts used
   parts-sized = record { count = shown .counted .part-count; rows = shown .counted .need-is; shown = shown .sizes-shown; small = size-small m (shown .sound) }
 
   pub parts-ready : (tablesEnd : ℕ) (children : List ℕ) → tablesEnd ≡ rowsAt m → length children ≡ mostParts → ((q : ℕ) → q < length children → word children q ≡ 0)
-      → parts-specs.Ready m parents sizes parts tablesEnd used children mem
+      → parts-specs.PartsReady m parents sizes parts tablesEnd used children mem
   parts-ready tablesEnd children e wide none =
       record {
         count = shown .counted .part-count;
@@ -58,7 +58,7 @@ module _ (m : Map) (parents leaves body lifts sizes : List ℕ) (vertices roads 
       }
 
   pub roads-ready : (base : ℕ) (ins : List ℕ) → base ≡ 64 + 8 * parts + 8 * vertices → length ins ≡ mostVertices → ((v : ℕ) → v < length ins → word ins v ≡ 0)
-      → roads-specs.Ready m body roads base ins mem
+      → roads-specs.RoadsReady m body roads base ins mem
   roads-ready base ins e wide none =
       record {
         count = shown .counted .road-count;
@@ -70,7 +70,7 @@ module _ (m : Map) (parents leaves body lifts sizes : List ℕ) (vertices roads 
       }
 
   pub vertices-ready : (base : ℕ) (ins places mem′ : List ℕ) → base ≡ 64 + 8 * parts → length mem′ ≡ length mem → ((v : ℕ) → v < m .vertices → word ins v ≡ link (endsAt v) 0 (m .roads))
-      → length places ≡ mostParts → ((q : ℕ) → q < length places → word places q ≡ 0) → vertices-specs.Ready m leaves body roads vertices base ins places mem′
+      → length places ≡ mostParts → ((q : ℕ) → q < length places → word places q ≡ 0) → vertices-specs.VerticesReady m leaves body roads vertices base ins places mem′
   vertices-ready base ins places mem′ e same linked wide none =
       record {
         road-count = shown .counted .road-count;
@@ -87,7 +87,7 @@ module _ (m : Map) (parents leaves body lifts sizes : List ℕ) (vertices roads 
       }
 
   pub rows-ready : (base : ℕ) (cursors : List ℕ) → used < 4294967296 → base ≡ 64 + 8 * parts → length cursors ≡ mostParts → ((p : ℕ) → p < partCount m → word cursors p ≡ firstRowOf m p)
-      → rows-specs.Ready m parents leaves lifts vertices base cursors mem
+      → rows-specs.RowsReady m parents leaves lifts vertices base cursors mem
   rows-ready base cursors fits e wide first =
       record {
         sound = shown .sound;
@@ -102,11 +102,11 @@ module _ (m : Map) (parents leaves body lifts sizes : List ℕ) (vertices roads 
         room = omega (arith, long, shown .counted .need-is);
       }
 
-module _ (m : Map) (parents leaves body lifts sizes : List ℕ) (vertices roads parts used : ℕ) (shown : Shown m parents leaves body lifts sizes vertices roads parts used) (mem : List ℕ) (long : length mem ≡ used) where
+module _ (m : Map) (parents leaves body lifts sizes : List ℕ) (vertices roads parts used : ℕ) (shown : MapShown m parents leaves body lifts sizes vertices roads parts used) (mem : List ℕ) (long : length mem ≡ used) where
   -- the roads, and then the vertices with the links that the roads left
   pub net-stands : (ins between : List ℕ) (long-ins : length ins ≡ mostVertices) (places after : List ℕ) → length places ≡ mostParts → ((q : ℕ) → q < length places → word places q ≡ 0)
       → roads-specs.RoadsStand m 0 mem ins between
-      → (vertices-specs.Ready m leaves body roads vertices (64 + 8 * parts) ins places between → vertices-specs.VerticesStand m vertices between after)
+      → (vertices-specs.VerticesReady m leaves body roads vertices (64 + 8 * parts) ins places between → vertices-specs.VerticesStand m vertices between after)
       → NetStands m mem after
   net-stands ins between long-ins places after wide none stand then-vertices =
       record {
@@ -122,7 +122,7 @@ module _ (m : Map) (parents leaves body lifts sizes : List ℕ) (vertices roads 
   -- the rows, from the first row of each part on
   pub rows-done : (cursors₀ cursors cursors′ after : List ℕ) → used < 4294967296 → length cursors₀ ≡ mostParts → ((p : ℕ) → p < partCount m → word mem (64 + 8 * p + 2) ≡ firstRowOf m p)
       → rows-specs.FirstRows mem parts cursors₀ cursors
-      → (rows-specs.Ready m parents leaves lifts vertices (64 + 8 * parts) cursors mem → rows-specs.RowsStand m vertices (λ q. true) mem cursors′ after)
+      → (rows-specs.RowsReady m parents leaves lifts vertices (64 + 8 * parts) cursors mem → rows-specs.RowsStand m vertices (λ q. true) mem cursors′ after)
       → RowsDone m mem after
   rows-done cursors₀ cursors cursors′ after fits wide first read then-rows =
       record {

@@ -20,7 +20,7 @@ use Rattle.parts.specs.Size.{rowVertices, sizeOf, need}
 use Rattle.parts.proofs.Rows.{row-vertex, rows-unique}
 use Rattle.fleet.specs.State.{freshState}
 use Rattle.image.specs.Places.{verticesAt, roadsAt, vansAt, tablesAt, firstRowOf, rowAt}
-use Rattle.image.specs.Image.{headPart, partRecord, image}
+use Rattle.image.specs.Image.{headRecord, headPart, partRecord, image}
 use Rattle.image.specs.Records.{rowVertex, roadRecord}
 use Rattle.image.proofs.Length.{head-length}
 use Rattle.image.proofs.Records.{vertices-start, roads-start, vans-start, tables-start, rows-start, rows-end, head-word, part-word, vertex-word, road-word, van-word, shown-word}
@@ -32,12 +32,12 @@ use Rattle.opening_fresh.proofs.Fresh.{fresh-slots, fresh-count, fresh-vertex, 
 use Rattle.opening_parts.specs.Parts.{PartsStand}
 use Rattle.opening_rows.specs.Rows.{hasRow, rowPlace}
 use Rattle.opening_rows.proofs.Places.{rows-kept, place-row}
-use Rattle.opening_sections.specs.Sections.{headWords, Shown, NetStands, RowsDone, Sections}
+use Rattle.opening_sections.specs.Sections.{MapShown, NetStands, RowsDone, Sections}
 
 -- the stores of `write_head`
 pub head-stored : (mem p q r : List ℕ) (used vertices roads parts start : ℕ) → p ≡ sets mem 0 (20481 ∷ used ∷ vertices ∷ roads ∷ []) → q ≡ sets p 4 (parts ∷ start ∷ 0 ∷ 0 ∷ []) → r ≡ cleared q 8 56
-    → r ≡ sets mem 0 (headWords used vertices roads parts start)
-unfolding headWords cleared
+    → r ≡ sets mem 0 (headRecord used vertices roads parts start)
+unfolding cleared
 head-stored mem p q r used vertices roads parts start e f g =
     g
     ∙ ap (λ (l : List ℕ). sets l 8 (replicate 56 0)) (f ∙ ap (λ (l : List ℕ). sets l 4 (parts ∷ start ∷ 0 ∷ 0 ∷ [])) e)
@@ -48,8 +48,8 @@ module _ (m : Map) (start : ℕ) where
   abbrev target : List ℕ
   target = image m (freshState start)
 
-  head-is : headWords (need m) (m .vertices) (roadCount m) (partCount m) start ≡ headPart m (freshState start)
-  unfolding headWords headPart
+  head-is : headRecord (need m) (m .vertices) (roadCount m) (partCount m) start ≡ headPart m (freshState start)
+  unfolding headPart
   head-is = ap (λ (k : ℕ). headMark ∷ need m ∷ m .vertices ∷ roadCount m ∷ partCount m ∷ k ∷ replicate 58 0) (sym (fresh-count start))
 
   head-agrees : (mem a : List ℕ) → a ≡ sets mem 0 (headPart m (freshState start)) → 64 ≤ length mem → Agrees target 0 64 a
@@ -96,8 +96,8 @@ module _ (m : Map) (start : ℕ) where
       (cleared-agrees target c d (vansAt m) n e (omega (arith, tables-start m, all)) (λ j h. van-none j (omega (arith, all)))))
 
   -- the sections before the tables
-  module _ (parents leaves body lifts sizes : List ℕ) (vertices roads parts used : ℕ) (shown : Shown m parents leaves body lifts sizes vertices roads parts used) where
-    pub front-stands : (mem a b c d : List ℕ) (n : ℕ) → length mem ≡ used → a ≡ sets mem 0 (headWords used vertices roads parts start) → PartsStand m 0 a b → NetStands m b c
+  module _ (parents leaves body lifts sizes : List ℕ) (vertices roads parts used : ℕ) (shown : MapShown m parents leaves body lifts sizes vertices roads parts used) where
+    pub front-stands : (mem a b c d : List ℕ) (n : ℕ) → length mem ≡ used → a ≡ sets mem 0 (headRecord used vertices roads parts start) → PartsStand m 0 a b → NetStands m b c
         → n ≡ 8 * vans → d ≡ cleared c (64 + 8 * parts + 8 * vertices + 4 * roads) n → Agrees target 0 (tablesAt m) d
     front-stands mem a b c d n long e w net all f =
         vans-agree c d n all (f ∙ ap (λ (k : ℕ). cleared c k n) here) (omega (arith, same-length, shown .counted .need-is, rows-end m, rows-start m))
@@ -107,12 +107,12 @@ module _ (m : Map) (start : ℕ) where
         here : 64 + 8 * parts + 8 * vertices + 4 * roads ≡ vansAt m
         here = omega (arith, vans-start m, roads-start m, shown .counted .part-count, shown .counted .vertex-count, shown .counted .road-count)
 
-        same-head : headWords used vertices roads parts start ≡ headWords (need m) (m .vertices) (roadCount m) (partCount m) start
-        same-head = (λ i. headWords (shown .counted .need-is i) (shown .counted .vertex-count i) (shown .counted .road-count i) (shown .counted .part-count i) start)
+        same-head : headRecord used vertices roads parts start ≡ headRecord (need m) (m .vertices) (roadCount m) (partCount m) start
+        same-head = (λ i. headRecord (shown .counted .need-is i) (shown .counted .vertex-count i) (shown .counted .road-count i) (shown .counted .part-count i) start)
 
         same-length : length c ≡ used
         same-length =
-            net .vertices .long ∙ net .roads .long ∙ w .long ∙ ap length e ∙ length-sets mem 0 (headWords used vertices roads parts start) ∙ long
+            net .vertices .long ∙ net .roads .long ∙ w .long ∙ ap length e ∙ length-sets mem 0 (headRecord used vertices roads parts start) ∙ long
 
   -- the parts show where their rows begin
   pub first-row-stands : (d : List ℕ) → Agrees target 0 (tablesAt m) d → (p : ℕ) → p < partCount m → word d (64 + 8 * p + 2) ≡ firstRowOf m p

@@ -1,11 +1,11 @@
 -- The memory of an accepted map but for its distance tables.
 use mathlib.Core.Path.{_≡_}
 use mathlib.Core.Bool.{true}
-use mathlib.Core.List.{List, _∷_}
+use mathlib.Core.List.{List}
 use Prim.Native.Nat.{ℕ, _+_, _*_, _<_}
-use lib.ListN.{length, replicate}
-use Rattle.words.specs.Limits.{headMark}
+use lib.ListN.{length}
 use Rattle.words.specs.Lists.{word}
+use Rattle.layout.specs.Layout.{vertex·words, road·words, row·words}
 use Rattle.roads.specs.Map.{Map, partCount, roadCount}
 use Rattle.parts.specs.Size.{sizeOf, need}
 use Rattle.maps.specs.Sound.{Sound}
@@ -20,12 +20,8 @@ use Rattle.opening_fresh.specs.Fresh.{freshVertex}
 use Rattle.opening_rows.specs.Rows.{RowsStand}
 use Rattle.opening_sections.specs.Counted.{Counted}
 
--- mark, words used, vertices, roads, parts, change count; the rest of the head is 0
-unfoldable pub headWords : ℕ → ℕ → ℕ → ℕ → ℕ → List ℕ
-headWords used vertices roads parts count = headMark ∷ used ∷ vertices ∷ roads ∷ parts ∷ count ∷ replicate 58 0
-
 -- m is sound, has these counts and this need, and what is lent shows it
-pub record Shown (m : Map) (parents leaves body lifts sizes : List ℕ) (vertices roads parts used : ℕ) : Type 0 where
+pub record MapShown (m : Map) (parents leaves body lifts sizes : List ℕ) (vertices roads parts used : ℕ) : Type 0 where
   pub sound : Sound m
   pub counted : Counted m vertices roads parts used
   pub parents-shown : ShowsParents m parents
@@ -37,8 +33,8 @@ pub record Shown (m : Map) (parents leaves body lifts sizes : List ℕ) (vertice
 -- the roads are written, and then the vertices
 pub record NetStands (m : Map) (before after : List ℕ) : Type 0 where
   pub between : List ℕ
-  pub roads : Written (roadsAt m) 4 0 (roadCount m) (roadRecord m) before between
-  pub vertices : Written (verticesAt m) 8 0 (m .vertices) (freshVertex m) between after
+  pub roads : Written (roadsAt m) road·words 0 (roadCount m) (roadRecord m) before between
+  pub vertices : Written (verticesAt m) vertex·words 0 (m .vertices) (freshVertex m) between after
 
 -- the rows of all vertices are written
 pub record RowsDone (m : Map) (before after : List ℕ) : Type 0 where
@@ -49,5 +45,5 @@ pub record RowsDone (m : Map) (before after : List ℕ) : Type 0 where
 pub record Sections (m : Map) (start : ℕ) (mem : List ℕ) : Type 0 where
   pub long : length mem ≡ need m
   pub front : Agrees (image m (freshState start)) 0 (tablesAt m) mem
-  pub rows : (p i w : ℕ) → p < partCount m → i < sizeOf m p → w < 4
-      → word mem (firstRowOf m p + 4 * i + w) ≡ word (image m (freshState start)) (firstRowOf m p + 4 * i + w)
+  pub rows : (p i w : ℕ) → p < partCount m → i < sizeOf m p → w < row·words
+      → word mem (firstRowOf m p + row·words * i + w) ≡ word (image m (freshState start)) (firstRowOf m p + row·words * i + w)

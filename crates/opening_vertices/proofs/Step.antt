@@ -15,6 +15,7 @@ use Rattle.words.specs.Lists.{word, upTo, keep, placeIn, link}
 use Rattle.words.specs.Ranks.{rank}
 use Rattle.words.proofs.Stores.{stored-join}
 use Rattle.words.proofs.Ranks.{rank-none, rank-kept, rank-left, rank-most, rank-place, keep-first}
+use Rattle.layout.specs.Layout.{vertex·words, vertex·vans}
 use Rattle.roads.specs.Map.{Road, Map, roadCount, roadAt, noRoad}
 use Rattle.parts.specs.Tree.{leafOf, verticesOf}
 use Rattle.maps.specs.Bytes.{field, roadShown}
@@ -22,12 +23,12 @@ use Rattle.image.specs.Places.{verticesAt}
 use Rattle.image.specs.Image.{firstRoadFrom, endsAt}
 use Rattle.records.proofs.Written.{written-up}
 use Rattle.opening_fresh.specs.Fresh.{vertexWords, freshVertex}
-use Rattle.opening_vertices.specs.Vertices.{Passed, Skipped, Ready, VerticesStand}
+use Rattle.opening_vertices.specs.Vertices.{Passed, Skipped, VerticesReady, VerticesStand}
 
 -- the two halves of a vertex's record
-pub vertex-stored : (mem p q : List ℕ) (at a b c d : ℕ) → p ≡ sets mem at (a ∷ b ∷ c ∷ d ∷ []) → q ≡ sets p (at + 4) (0 ∷ NONE ∷ FAR ∷ 0 ∷ []) → q ≡ sets mem at (vertexWords a b c d)
+pub vertex-stored : (mem p q : List ℕ) (at a b c d : ℕ) → p ≡ sets mem at (a ∷ b ∷ c ∷ d ∷ []) → q ≡ sets p (at + vertex·vans) (0 ∷ NONE ∷ FAR ∷ 0 ∷ []) → q ≡ sets mem at (vertexWords a b c d)
 vertex-stored mem p q at a b c d e f =
-    f ∙ ap (λ (l : List ℕ). sets l (at + 4) (0 ∷ NONE ∷ FAR ∷ 0 ∷ [])) e ∙ stored-join mem at (a ∷ b ∷ c ∷ d ∷ []) (0 ∷ NONE ∷ FAR ∷ 0 ∷ [])
+    f ∙ ap (λ (l : List ℕ). sets l (at + vertex·vans) (0 ∷ NONE ∷ FAR ∷ 0 ∷ [])) e ∙ stored-join mem at (a ∷ b ∷ c ∷ d ∷ []) (0 ∷ NONE ∷ FAR ∷ 0 ∷ [])
 
 -- the place taken
 pub place-taken : (places places′ : List ℕ) (leaf at place next : ℕ) → at ≡ leaf → place ≡ word places at → next ≡ (place + 1) % 2 ^ 32 → places′ ≡ set places at next
@@ -67,7 +68,7 @@ pub record Taken (m : Map) (v : ℕ) (places : List ℕ) (road : ℕ) : Type 0 w
   pub reached : road ≤ roadCount m
   pub passed : (i : ℕ) → i < road → roadAt m i .from < v
 
-module _ (m : Map) (leaves body : List ℕ) (roads vertices base : ℕ) (ins places₀ mem₀ : List ℕ) (ready : Ready m leaves body roads vertices base ins places₀ mem₀) where
+module _ (m : Map) (leaves body : List ℕ) (roads vertices base : ℕ) (ins places₀ mem₀ : List ℕ) (ready : VerticesReady m leaves body roads vertices base ins places₀ mem₀) where
   pub taken-none : Taken m 0 places₀ 0
   taken-none = record { place = λ q h. ready .none q h ∙ sym (rank-none (standsIn m q)); reached = omega arith; passed = λ i h. absurd (omega arith) }
 
@@ -78,7 +79,7 @@ module _ (m : Map) (leaves body : List ℕ) (roads vertices base : ℕ) (ins pla
 
   module _ (v road road′ leaf place in-link : ℕ) (places places′ mem mem′ : List ℕ) (h : v < vertices) (long : length places ≡ length places₀) (taken : Taken m v places road)
       (skipped : Skipped body roads road v road′) (is-leaf : leaf ≡ word leaves v) (is-place : place ≡ word places leaf) (takes : places′ ≡ set places leaf ((place + 1) % 2 ^ 32))
-      (is-link : in-link ≡ word ins v) (stored : mem′ ≡ sets mem (base + 8 * v) (vertexWords leaf place road′ in-link)) where
+      (is-link : in-link ≡ word ins v) (stored : mem′ ≡ sets mem (base + vertex·words * v) (vertexWords leaf place road′ in-link)) where
     here : v < m .vertices
     here = omega (arith, ready .count)
 
@@ -118,14 +119,14 @@ module _ (m : Map) (leaves body : List ℕ) (roads vertices base : ℕ) (ins pla
         linked : in-link ≡ link (endsAt v) 0 (m .roads)
         linked = is-link ∙ ready .linked v here
 
-    sized : length (freshVertex m v) ≡ 8
+    sized : length (freshVertex m v) ≡ vertex·words
     unfolding freshVertex
     sized = refl
 
     vertices-more : VerticesStand m v mem₀ mem → VerticesStand m (v + 1) mem₀ mem′
     vertices-more old =
-        written-up (verticesAt m) 8 (freshVertex m) 0 v mem₀ mem mem′ (omega arith) sized (omega (arith, ready .room, old .long)) old
-        (stored ∙ ap₂ (λ (k : ℕ) (l : List ℕ). sets mem (k + 8 * v) l) (ready .start) same-record)
+        written-up (verticesAt m) vertex·words (freshVertex m) 0 v mem₀ mem mem′ (omega arith) sized (omega (arith, ready .room, old .long)) old
+        (stored ∙ ap₂ (λ (k : ℕ) (l : List ℕ). sets mem (k + vertex·words * v) l) (ready .start) same-record)
 
     one-more : (place + 1) % 2 ^ 32 ≡ suc (rank (standsIn m leaf) v)
     one-more = omega (arith, place-is, rank-most (standsIn m leaf) v, ready .few)

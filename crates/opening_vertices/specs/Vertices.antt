@@ -5,6 +5,7 @@ use Prim.Native.Nat.{ℕ, suc, _+_, _*_, _≤_, _<_}
 use lib.ListN.{length}
 use Rattle.words.specs.Limits.{mostVertices}
 use Rattle.words.specs.Lists.{word, link}
+use Rattle.layout.specs.Layout.{vertex·words}
 use Rattle.roads.specs.Map.{Map, roadCount, roadAt}
 use Rattle.parts.specs.Tree.{leafOf}
 use Rattle.maps.specs.Bytes.{roadShown}
@@ -26,7 +27,7 @@ pub record Skipped (body : List ℕ) (roads first v r : ℕ) : Type 0 where
   pub stops : r < roads → v ≤ roadShown body r .from
 
 -- what is lent shows the vertices of m and has room for them, and no place is taken yet
-pub record Ready (m : Map) (leaves body : List ℕ) (roads vertices base : ℕ) (ins places mem : List ℕ) : Type 0 where
+pub record VerticesReady (m : Map) (leaves body : List ℕ) (roads vertices base : ℕ) (ins places mem : List ℕ) : Type 0 where
   pub road-count : roads ≡ roadCount m
   pub count : vertices ≡ m .vertices
   pub few : m .vertices ≤ mostVertices
@@ -37,8 +38,8 @@ pub record Ready (m : Map) (leaves body : List ℕ) (roads vertices base : ℕ) 
   pub leaf-room : (v : ℕ) → v < m .vertices → leafOf m v < length places
   pub linked : (v : ℕ) → v < m .vertices → word ins v ≡ link (endsAt v) 0 (m .roads)
   pub none : (q : ℕ) → q < length places → word places q ≡ 0
-  pub room : verticesAt m + 8 * m .vertices ≤ length mem
+  pub room : verticesAt m + vertex·words * m .vertices ≤ length mem
 
 -- the records of the vertices below v
 abbrev pub VerticesStand : Map → ℕ → List ℕ → List ℕ → Type 0
-VerticesStand m v mem₀ mem = Written (verticesAt m) 8 0 v (freshVertex m) mem₀ mem
+VerticesStand m v mem₀ mem = Written (verticesAt m) vertex·words 0 v (freshVertex m) mem₀ mem

@@ -3,6 +3,7 @@
 use cells::put;
 use cells::wide;
 use cells::word;
+use layout::VertexRecord;
 use map_bytes::number2;
 use records::put4;
 use rows::Row;
@@ -11,14 +12,15 @@ ghost use mathlib.Core.Path.{_≡_};
 ghost use Prim.Native.Nat.{_+_, _<_, _≤_, _%_, _^_};
 ghost use lib.ListN.{set};
 ghost use lib.Seq.{sets};
+ghost use Rattle.words.specs.Limits.{mostVertices, mostRoads};
 ghost use Rattle.words.specs.Lists.{word};
 ghost use Rattle.roads.specs.Map.{Map};
 ghost use Rattle.opening_fresh.specs.Fresh.{vertexWords};
-ghost use Rattle.opening_vertices.specs.Vertices.{Skipped, Ready, VerticesStand};
+ghost use Rattle.opening_vertices.specs.Vertices.{Skipped, VerticesReady, VerticesStand};
 
 // The first road from `first` on that does not start below v.
 fn skip(body: &[u8], roads: u32, first: u32, v: u32) -> u32
-    requires { ⌜ roads ≤ 16384 ⌝ }
+    requires { ⌜ roads ≤ mostRoads ⌝ }
     ensures { λ r. ⌜ Skipped (now (body .entry)) roads first v r ⌝ }
 {
     let mut r = first;
@@ -42,13 +44,18 @@ fn next_place(places: &mut [u32], leaf: u32) -> u32
     place
 }
 
+const VERTEX_WORDS: u32 = VertexRecord::WORDS as u32;
+
+// The record's second half starts with the link to its vans.
+const SECOND_HALF: u32 = VertexRecord::VANS as u32;
+
 // No van heads for the vertex.
 fn write_vertex(mem: &mut [u32], at: u32, leaf: u32, place: u32, road: u32, link: u32)
     requires { ⌜ at < 4294967000 ⌝ }
     ensures { λ _. ⌜ now (mem .exit) ≡ sets (now (mem .entry)) at (vertexWords leaf place road link) ⌝ }
 {
     put4(mem, at, leaf, place, road, link);
-    put4(mem, at + 4, 0, Row::NO_VERTEX, Row::FAR, 0);
+    put4(mem, at + SECOND_HALF, 0, Row::NO_VERTEX, Row::FAR, 0);
 }
 
 // The vertices of a map whose section starts at `base`; `ins` has the link from each to the first road into it, and `places`, all 0
@@ -63,8 +70,8 @@ pub fn write_vertices(
     places: &mut [u32],
     mem: &mut [u32],
 )
-    requires { ⌜ (roads ≤ 16384) × (vertices ≤ 4096) × (base ≤ 65536) ⌝ }
-    ensures { λ _. ⌜ ((m : Map) → Ready m (now (leaves .entry)) (now (body .entry)) roads vertices base (now (ins .entry)) (now (places .entry)) (now (mem .entry)) → VerticesStand m vertices (now (mem .entry)) (now (mem .exit))) ⌝ }
+    requires { ⌜ (roads ≤ mostRoads) × (vertices ≤ mostVertices) × (base ≤ 65536) ⌝ }
+    ensures { λ _. ⌜ ((m : Map) → VerticesReady m (now (leaves .entry)) (now (body .entry)) roads vertices base (now (ins .entry)) (now (places .entry)) (now (mem .entry)) → VerticesStand m vertices (now (mem .entry)) (now (mem .exit))) ⌝ }
 {
     let mut road: u32 = 0;
     let mut v: u32 = 0;
@@ -73,7 +80,7 @@ pub fn write_vertices(
         let leaf = word(leaves, wide(v));
         let place = next_place(places, leaf);
         let link = word(ins, wide(v));
-        write_vertex(mem, base + 8 * v, leaf, place, road, link);
+        write_vertex(mem, base + VERTEX_WORDS * v, leaf, place, road, link);
         v += 1;
     }
 }

@@ -8,7 +8,7 @@ use lib.Dec.{leb}
 use Rattle.maps.specs.Bytes.{field}
 use Rattle.packs.specs.declared.Item.{Item}
 
-pub record Stands (pack : List ℕ) (at : ℕ) (item : Item) : Type 0 where
+pub record ItemStands (pack : List ℕ) (at : ℕ) (item : Item) : Type 0 where
   pub held : item .whole ≡ leb (at + 4 + field pack at 4) (length pack)
   pub begins : item .whole ≡ true → item .start ≡ at + 4
   pub ends : item .whole ≡ true → item .end ≡ at + 4 + field pack at 4

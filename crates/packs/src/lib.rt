@@ -3,7 +3,7 @@ use map_bytes::number4;
 ghost use Prim.Native.Nat.{_<_};
 ghost use lib.ListN.{length};
 ghost use Rattle.io.specs.Counts.{Counts};
-ghost use Rattle.packs.specs.Pack.{Stands};
+ghost use Rattle.packs.specs.Pack.{ItemStands};
 
 // The bytes from `start` to `end`, where the pack holds them whole; else what is left of it, and none of its bytes.
 pub struct Item {
@@ -14,7 +14,7 @@ pub struct Item {
 
 pub fn item_at(pack: &[u8], at: usize) -> Item
     requires { ⌜ at < length (now pack) ⌝ }
-    ensures { λ r. ⌜ Stands (now (pack .entry)) at r ⌝ }
+    ensures { λ r. ⌜ ItemStands (now (pack .entry)) at r ⌝ }
 {
     let size = pack.len();
     let cut = Item {

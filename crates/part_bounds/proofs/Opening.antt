@@ -15,7 +15,8 @@ use Rattle.words.proofs.Tests.{both-pass, left-true, right-true}
 use Rattle.far_sums.proofs.Lowering.{lowered-lesser, lowered-here, lowered-honest, lowered-where}
 use Rattle.cells.specs.Lowered.{lowered}
 use Rattle.listing.specs.Lists.{Among}
-use Rattle.part_words.specs.Part.{partWord, rowsIn}
+use Rattle.layout.specs.Layout.{partWord}
+use Rattle.part_words.specs.Part.{rowsIn}
 use Rattle.row_lists.specs.Rows.{ownerAt, childAt, belowAt, nearAt, Apart, isKnown, isAsked, AskedRow, Looked}
 use Rattle.row_distances.specs.Distances.{Closer}
 use Rattle.row_distances.proofs.Relaxing.{closer-named}

@@ -3,8 +3,9 @@ use mathlib.Core.Path.{_≡_}
 use mathlib.Core.Bool.{Bool, true}
 use mathlib.Core.List.{List}
 use Prim.Native.Nat.{ℕ, _≤_, _<_}
+use Rattle.layout.specs.Layout.{part·rows, partWord}
 use Rattle.words.specs.Limits.{FAR}
-use Rattle.part_words.specs.Part.{partWord, rowsIn}
+use Rattle.part_words.specs.Part.{rowsIn}
 use Rattle.row_lists.specs.Rows.{nearAt}
 use Rattle.row_distances.specs.Distances.{Relaxed}
 use Rattle.part_keys.specs.Keys.{Spread}
@@ -16,4 +17,4 @@ pub record GivenRow (all : Bool) (mem : List ℕ) (first size : ℕ) (dx : List 
 
 -- a part was opened up: its rows have their distances, and have given keys
 abbrev pub OpenedUp : List ℕ → ℕ → Bool → List ℕ → List ℕ → List ℕ → ℕ → List ℕ → List ℕ → List ℕ → ℕ → Type 0
-OpenedUp mem p all dx keys waits n dx′ keys′ waits′ n′ = Relaxed mem p all dx dx′ × Spread mem (partWord mem p 2) dx′ (GivenRow all mem (partWord mem p 2) (rowsIn mem p) dx) keys waits n keys′ waits′ n′
+OpenedUp mem p all dx keys waits n dx′ keys′ waits′ n′ = Relaxed mem p all dx dx′ × Spread mem (partWord mem p part·rows) dx′ (GivenRow all mem (partWord mem p part·rows) (rowsIn mem p) dx) keys waits n keys′ waits′ n′

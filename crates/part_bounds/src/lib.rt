@@ -3,6 +3,7 @@ use cells::put;
 use cells::wide;
 use cells::word;
 use far_sums::far_sum;
+use layout::RowRecord;
 use part_keys::lower_key;
 use part_keys::spread_known;
 use part_words::part_rows;
@@ -12,6 +13,7 @@ ghost use mathlib.Core.Path.{_≡_};
 ghost use mathlib.Core.Bool.{Bool};
 ghost use Prim.Native.Nat.{_+_, _*_, _≤_, _<_, _^_};
 ghost use lib.ListN.{length};
+ghost use Rattle.layout.specs.Layout.{row·words};
 ghost use Rattle.listing.specs.Lists.{Among};
 ghost use Rattle.row_lists.specs.Rows.{Fits, Apart, Looked, isAsked};
 ghost use Rattle.row_distances.specs.Distances.{Closer};
@@ -34,10 +36,10 @@ fn relax_spread(
     waits: &mut [u32],
     n: usize,
 ) -> usize
-    requires { ⌜ (first < 2 ^ 32) × (table < 2 ^ 32) × (size ≤ 128) × (first + 4 * size ≤ length (now mem)) × (table + size * size ≤ length (now mem)) × ((all : Bool) × Looked (now mem) first (now dx) (isAsked all (now mem) first (now dx)) size (now places) (now near) known (now asked) count) × (farCount (now keys) + n ≤ 512) × (length (now waits) ≡ 512) ⌝ }
+    requires { ⌜ (first < 2 ^ 32) × (table < 2 ^ 32) × (size ≤ 128) × (first + row·words * size ≤ length (now mem)) × (table + size * size ≤ length (now mem)) × ((all : Bool) × Looked (now mem) first (now dx) (isAsked all (now mem) first (now dx)) size (now places) (now near) known (now asked) count) × (farCount (now keys) + n ≤ 512) × (length (now waits) ≡ 512) ⌝ }
     ensures { λ r. ⌜ (farCount (now (keys .exit)) + r ≤ farCount (now (keys .entry)) + n) × (Apart (now (mem .entry)) first size → Closer (now (mem .entry)) first table size (now (dx .entry)) (Among (now (asked .entry)) count) (now (dx .exit)) × Spread (now (mem .entry)) first (now (dx .exit)) (Among (now (asked .entry)) count) (now (keys .entry)) (now (waits .entry)) n (now (keys .exit)) (now (waits .exit)) r) ⌝ }
 {
-    let end = first + 4 * size;
+    let end = first + RowRecord::WORDS * size;
     let rows = &mem[first..end];
     let mut waiting = n;
     let mut t = 0;
@@ -47,11 +49,11 @@ fn relax_spread(
         let past = at + size;
         let row = &mem[at..past];
         let way = least_in(row, places, near, known);
-        let owner = rows[4 * i + 2];
-        let below = wide(rows[4 * i + 3]);
-        put(dx, wide(owner % 65536), way);
-        let key = far_sum(word(mem, below + 1), way);
-        waiting = lower_key(keys, waits, waiting, owner / 65536, key);
+        let owner = rows[RowRecord::WORDS * i + RowRecord::OWN];
+        let below = wide(rows[RowRecord::WORDS * i + RowRecord::BELOW]);
+        put(dx, wide(owner % RowRecord::CHILD), way);
+        let key = far_sum(word(mem, below + RowRecord::DISTANCE), way);
+        waiting = lower_key(keys, waits, waiting, owner / RowRecord::CHILD, key);
         t += 1;
     }
     waiting

@@ -6,12 +6,14 @@ use cells::wide;
 use cells::word;
 use far_sums::FAR;
 use far_sums::far_sum;
+use layout::RowRecord;
 ghost use mathlib.Core.Path.{_≡_};
 ghost use mathlib.Core.Bool.{cond, _&&_};
 ghost use mathlib.Core.List.{List};
 ghost use Prim.Native.Nat.{ℕ, _+_, _*_, _≤_, _<_, _^_};
 ghost use lib.ListN.{length, set};
 ghost use lib.Dec.{leb, ltb};
+ghost use Rattle.layout.specs.Layout.{row·words};
 ghost use Rattle.words.specs.Limits.{FAR};
 ghost use Rattle.words.specs.Lists.{word};
 ghost use Rattle.cells.specs.Lowered.{lowered};
@@ -61,19 +63,19 @@ pub fn spread_known(
     waits: &mut [u32],
     n: usize,
 ) -> usize
-    requires { ⌜ (first < 2 ^ 32) × (size ≤ 128) × (first + 4 * size ≤ length (now mem)) × (farCount (now keys) + n ≤ 512) × (length (now waits) ≡ 512) × ((t : ℕ) → t < count → word (now places) t < size) × ((dx : List ℕ) × Nears (now mem) first dx (now places) (now near) count) ⌝ }
+    requires { ⌜ (first < 2 ^ 32) × (size ≤ 128) × (first + row·words * size ≤ length (now mem)) × (farCount (now keys) + n ≤ 512) × (length (now waits) ≡ 512) × ((t : ℕ) → t < count → word (now places) t < size) × ((dx : List ℕ) × Nears (now mem) first dx (now places) (now near) count) ⌝ }
     ensures { λ r. ⌜ ((dx : List ℕ) → Nears (now (mem .entry)) first dx (now (places .entry)) (now (near .entry)) count → Spread (now (mem .entry)) first dx (Among (now (places .entry)) count) (now (keys .entry)) (now (waits .entry)) n (now (keys .exit)) (now (waits .exit)) r) ⌝ }
 {
-    let end = first + 4 * size;
+    let end = first + RowRecord::WORDS * size;
     let rows = &mem[first..end];
     let mut waiting = n;
     let mut t = 0;
     while t < count {
         let i = wide(word(places, t));
-        let owner = rows[4 * i + 2];
-        let below = wide(rows[4 * i + 3]);
-        let key = far_sum(word(mem, below + 1), word(near, t));
-        waiting = lower_key(keys, waits, waiting, owner / 65536, key);
+        let owner = rows[RowRecord::WORDS * i + RowRecord::OWN];
+        let below = wide(rows[RowRecord::WORDS * i + RowRecord::BELOW]);
+        let key = far_sum(word(mem, below + RowRecord::DISTANCE), word(near, t));
+        waiting = lower_key(keys, waits, waiting, owner / RowRecord::CHILD, key);
         t += 1;
     }
     waiting

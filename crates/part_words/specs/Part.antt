@@ -6,28 +6,21 @@ use Prim.Native.Nat.{ℕ, _+_, _*_, _^_, _≤_, _<_, min}
 use lib.ListN.{length}
 use lib.Dec.{leb}
 use Rattle.words.specs.Limits.{mostBorders}
-use Rattle.words.specs.Lists.{word}
-
-abbrev pub partAt : ℕ → ℕ
-partAt p = 64 + 8 * p
-
--- word w of a part's record
-abbrev pub partWord : List ℕ → ℕ → ℕ → ℕ
-partWord mem p w = word mem (partAt p + w)
+use Rattle.layout.specs.Layout.{part·size, part·rows, part·table, row·words, partWord}
 
 -- its rows are at most `mostBorders`, whatever stands there
 abbrev pub rowsIn : List ℕ → ℕ → ℕ
-rowsIn mem p = min (partWord mem p 1) mostBorders
+rowsIn mem p = min (partWord mem p part·size) mostBorders
 
 -- `size` rows and a table for them lie within the memory
 abbrev pub fits : List ℕ → ℕ → ℕ → ℕ → Bool
-fits mem rows table size = leb (rows + 4 * size) (length mem) && leb (table + size * size) (length mem)
+fits mem rows table size = leb (rows + row·words * size) (length mem) && leb (table + size * size) (length mem)
 
 -- what was read of part p: how many rows it has, where they and its table stand, and whether these lie within the memory
 pub record PartRead (mem : List ℕ) (p size first table : ℕ) (within : Bool) : Type 0 where
   pub size-is : size ≡ rowsIn mem p
-  pub first-is : first ≡ partWord mem p 2
-  pub table-is : table ≡ partWord mem p 3
+  pub first-is : first ≡ partWord mem p part·rows
+  pub table-is : table ≡ partWord mem p part·table
   pub within-is : within ≡ fits mem first table size
   pub few : size ≤ mostBorders
   pub first-small : first < 2 ^ 32

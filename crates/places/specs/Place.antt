@@ -2,16 +2,17 @@
 use Prim.Native.Nat.{ℕ, _+_, _*_}
 use mathlib.Core.List.{List}
 use Rattle.words.specs.Lists.{word}
+use Rattle.layout.specs.Layout.{head·vertices, head·roads, head·parts, vertex·words, road·words, van·words, verticesFrom, roadsFrom, vansFrom}
 use Rattle.counts.specs.declared.Counts.{Counts}
 
 abbrev pub countsIn : List ℕ → Counts
-countsIn mem = record { vertices = word mem 2; roads = word mem 3; parts = word mem 4 }
+countsIn mem = record { vertices = word mem head·vertices; roads = word mem head·roads; parts = word mem head·parts }
 
-abbrev pub vertexAt : Counts → ℕ → ℕ
-vertexAt counts vertex = 64 + 8 * counts .parts + 8 * vertex
+abbrev pub vertexAddress : Counts → ℕ → ℕ
+vertexAddress counts vertex = verticesFrom (counts .parts) + vertex·words * vertex
 
-abbrev pub roadAt : Counts → ℕ → ℕ
-roadAt counts road = 64 + 8 * counts .parts + 8 * counts .vertices + 4 * road
+abbrev pub roadAddress : Counts → ℕ → ℕ
+roadAddress counts road = roadsFrom (counts .parts) (counts .vertices) + road·words * road
 
-abbrev pub vanAt : Counts → ℕ → ℕ
-vanAt counts van = 64 + 8 * counts .parts + 8 * counts .vertices + 4 * counts .roads + 8 * van
+abbrev pub vanAddress : Counts → ℕ → ℕ
+vanAddress counts van = vansFrom (counts .parts) (counts .vertices) (counts .roads) + van·words * van

@@ -19,7 +19,8 @@ use Rattle.parts.specs.Size.{rowVertices, sizeOf}
 use Rattle.rows.specs.Row.{rowOf, Arrives}
 use Rattle.fleet.specs.State.{State, active}
 use Rattle.image.specs.Records.{rowVertex}
-use Rattle.part_words.specs.Part.{partWord, rowsIn}
+use Rattle.layout.specs.Layout.{partWord}
+use Rattle.part_words.specs.Part.{rowsIn}
 use Rattle.row_lists.specs.Rows.{belowAt, nearAt, showsOwn, isAsked, AskedRow, OwnRow}
 use Rattle.row_distances.specs.Distances.{Relaxed}
 use Rattle.van_offers.specs.Genuine.{Genuine}

@@ -7,11 +7,8 @@ use mathlib.Core.List.{List, []}
 use Prim.Native.Nat.{ℕ, zero, suc, _+_, _-_, _*_, _≤_, _<_, min}
 use native.Mathlib.Omega.{arith}
 use lib.ListN.{length, set, replicate, length-set, length-replicate, getD-replicate}
-use lib.Dec.{leb}
-use borrow.Author.Tests.{lt-leb, le-leb}
 use Rattle.words.specs.Limits.{FAR}
 use Rattle.words.specs.Lists.{word}
-use Rattle.words.specs.Ranks.{rank}
 use Rattle.words.proofs.Lists.{all-same}
 use Rattle.roads.specs.Map.{Map, partCount}
 use Rattle.parts.specs.Tree.{leafOf, isLeaf}
@@ -20,12 +17,13 @@ use Rattle.parts.proofs.Gates.{no-first-child, some-first-child}
 use Rattle.counts.specs.declared.Counts.{Counts}
 use Rattle.fleet.specs.State.{State}
 use Rattle.fleet.specs.Question.{Listed, nearest}
-use Rattle.places.specs.Place.{countsIn, vertexAt}
+use Rattle.places.specs.Place.{countsIn, vertexAddress}
 use Rattle.best_list.specs.Best.{entries, limitOf, offeredAll, InOrder}
 use Rattle.van_offers.specs.Offers.{stampIn, rowOffers}
 use Rattle.far_sums.specs.Least.{Least}
-use Rattle.part_words.specs.Part.{partWord, rowsIn}
-use Rattle.row_lists.specs.Rows.{showsOwn, Fits, ownRows}
+use Rattle.layout.specs.Layout.{partWord}
+use Rattle.part_words.specs.Part.{rowsIn}
+use Rattle.row_lists.specs.Rows.{Fits, ownRows}
 use Rattle.row_distances.specs.Distances.{Alone, Relaxed, outOf}
 use Rattle.cells.specs.Lowered.{lowered}
 use Rattle.part_bounds.specs.Bounds.{OpenedUp}
@@ -34,7 +32,7 @@ use Rattle.part_keys.proofs.Spreading.{far-lowered, far-most}
 use Rattle.part_keys.proofs.Nearest.{nearest-all}
 use Rattle.question.specs.declared.Search.{Search}
 use Rattle.van_offers.specs.Genuine.{Genuine, listOf}
-use Rattle.question.specs.Kept.{LeafRelaxed, offersOf, LeafTaken, OwnTaken, BoundOutside, Searching, Stands, Climbs, Goes, GoesOn, Fresh, leafIn, closeBy}
+use Rattle.question.specs.Kept.{LeafRelaxed, offersOf, LeafTaken, OwnTaken, BoundOutside, Searching, Stands, Climbs, Goes, GoesOn, Fresh}
 use Rattle.question.proofs.Shown.{parent-read, child-read, leaf-read, part-fits}
 use Rattle.question.proofs.Turns.{climbed, part-taken}
 use Rattle.question.proofs.Ends.{leaf-taken, stopped, limit-near, own-row, alone, started}
@@ -92,20 +90,6 @@ own-looked mem leaf place dx fars vans k {p} {at} {dx′} {fars′} {vans′} {l
                 ∙ ap (λ (l : List Listed). offeredAll k l (offersOf mem leaf dx′)) (nothing (stampIn mem (countsIn mem)) fars vans 0 refl),
           );
     }
-
--- when a search around x comes first
-pub close-many : (mem : List ℕ) (x k : ℕ) → 2 < k → false ≡ closeBy mem x k
-unfolding closeBy
-close-many mem x k many = rw (lt-leb k 2 many) refl
-
-pub close-is : (mem : List ℕ) (x k : ℕ) {counts : Counts} {shown leaf size start first active : ℕ} → k ≤ 2 → counts ≡ countsIn mem → shown ≡ word mem (vertexAt counts x + 0) → leaf ≡ shown → size ≡ rowsIn mem leaf
-    → start ≡ partWord mem leaf 2 → first ≡ start → active ≡ rank (showsOwn mem first) size → leb (k * size) (8 * active) ≡ closeBy mem x k
-unfolding closeBy
-close-is mem x k {leaf = leaf} {size} {first = first} few isCounts isShown isLeaf isSize isStart isFirst isActive =
-    let leaf-is : leaf ≡ leafIn mem x = isLeaf ∙ isShown ∙ ap (λ (c : Counts). word mem (vertexAt c x + 0)) isCounts in
-    let size-is : size ≡ rowsIn mem (leafIn mem x) = isSize ∙ ap (rowsIn mem) leaf-is in
-    let first-is : first ≡ partWord mem (leafIn mem x) 2 = isFirst ∙ isStart ∙ ap (λ (q : ℕ). partWord mem q 2) leaf-is in
-    rw (le-leb k 2 few) (λ i. leb (k * size-is i) (8 * (isActive ∙ (λ j. rank (showsOwn mem (first-is j)) (size-is j))) i))
 
 pub bound-root : (mem : List ℕ) (part : ℕ) (dx : List ℕ) → part ≡ 0 → BoundOutside mem part dx FAR
 bound-root mem part dx root = record { root = λ e. refl; other = λ real. absurd (real root) }
@@ -288,7 +272,7 @@ stands-still so goes =
 
 -- The start.
 module _ (mem : List ℕ) (x k : ℕ) (dx keys waits : List ℕ) (some : 1 ≤ k) (most : k ≤ 32) (fresh : Fresh dx keys waits) {counts : Counts} {leaf place at : ℕ} {dx₁ dx′ keys′ fars vans : List ℕ}
-    {len keyed : ℕ} (isCounts : counts ≡ countsIn mem) (isLeaf′ : leaf ≡ word mem (vertexAt counts x + 0)) (isPlace : place ≡ word mem (vertexAt counts x + 1)) (isAt : at ≡ x) (isStart : dx₁ ≡ set dx at 0)
+    {len keyed : ℕ} (isCounts : counts ≡ countsIn mem) (isLeaf′ : leaf ≡ word mem (vertexAddress counts x + 0)) (isPlace : place ≡ word mem (vertexAddress counts x + 1)) (isAt : at ≡ x) (isStart : dx₁ ≡ set dx at 0)
     (taken : OwnTaken mem leaf place dx₁ k dx′ fars vans len) (isKeyed : keyed ≡ leaf) (isKeys : keys′ ≡ lowered keys keyed 0) where
   pub begun : (out : ℕ) → Stands k keys′ fars vans (record { len = len; part = leaf; out = out; waiting = 0; from = 0; ended = false })
   begun out =
@@ -317,10 +301,10 @@ module _ (mem : List ℕ) (x k : ℕ) (dx keys waits : List ℕ) (some : 1 ≤ k
       start-is = isStart ∙ ap (λ (i : ℕ). set dx i 0) isAt
 
       leaf-is : leaf ≡ leafOf m x
-      leaf-is = isLeaf′ ∙ ap (λ (c : Counts). word mem (vertexAt c x + 0)) isCounts ∙ leaf-read g x hx
+      leaf-is = isLeaf′ ∙ ap (λ (c : Counts). word mem (vertexAddress c x + 0)) isCounts ∙ leaf-read g x hx
 
-      place-is : place ≡ word mem (vertexAt (countsIn mem) x + 1)
-      place-is = isPlace ∙ ap (λ (c : Counts). word mem (vertexAt c x + 1)) isCounts
+      place-is : place ≡ word mem (vertexAddress (countsIn mem) x + 1)
+      place-is = isPlace ∙ ap (λ (c : Counts). word mem (vertexAddress c x + 1)) isCounts
 
       looks : (Alone mem (partWord mem leaf 2) (rowsIn mem leaf) dx₁ place → Relaxed mem leaf true dx₁ dx′) × (listOf mem fars vans len ≡ offeredAll k [] (offersOf mem leaf dx′))
       looks = taken .looks (part-fits g leaf (omega (arith, leaf-is, sound-tree m (g .sound) .leaf-part x hx))) (own-row g x hx k some dx (fresh .no-distance) room start-is leaf leaf-is place place-is)

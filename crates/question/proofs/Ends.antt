@@ -33,9 +33,10 @@ use Rattle.fleet.proofs.Coming.{coming-distinct}
 use Rattle.image.specs.Records.{rowVertex}
 use Rattle.best_list.specs.Best.{limitOf, offeredAll}
 use Rattle.best_list.proofs.Offers.{limit-below}
-use Rattle.places.specs.Place.{countsIn, vertexAt}
+use Rattle.places.specs.Place.{countsIn, vertexAddress}
 use Rattle.far_sums.specs.Least.{Least}
-use Rattle.part_words.specs.Part.{partWord, rowsIn}
+use Rattle.layout.specs.Layout.{partWord}
+use Rattle.part_words.specs.Part.{rowsIn}
 use Rattle.row_distances.specs.Distances.{Alone, Relaxed}
 use Rattle.cells.specs.Lowered.{lowered}
 use Rattle.part_keys.specs.Keys.{keyAt}
@@ -217,7 +218,7 @@ module _ {m : Map} {s : State} {mem : List ℕ} (g : Genuine m s mem) (x : ℕ) 
     elsewhere v hv other = ap (λ (l : List ℕ). word l v) isStart ∙ getD-set-other dx₀ x v 0 0 other ∙ far v (omega (arith, hv, room))
 
     -- x alone has a distance, in the row at its place
-    module _ (place : ℕ) (isPlace : place ≡ word mem (vertexAt (countsIn mem) x + 1)) where
+    module _ (place : ℕ) (isPlace : place ≡ word mem (vertexAddress (countsIn mem) x + 1)) where
       at-place : (place < sizeOf m leaf) × (rowVertex m leaf place ≡ x)
       at-place = subst⁻¹ (λ (q : ℕ). (place < sizeOf m q) × (rowVertex m q place ≡ x)) isLeaf′
           (subst⁻¹ (λ (i : ℕ). (i < sizeOf m (leafOf m x)) × (rowVertex m (leafOf m x) i ≡ x)) isPlace (place-of-own g x hx))

@@ -28,11 +28,12 @@ use Rattle.fleet.specs.Question.{Listed, canCome, comingFrom, sorted}
 use Rattle.fleet.proofs.Sorted.{Distinct, none, more}
 use Rattle.fleet.proofs.Coming.{entry, Comes, coming-says, coming-has, coming-distinct}
 use Rattle.image.specs.Records.{rowVertex}
-use Rattle.places.specs.Place.{countsIn, vertexAt}
+use Rattle.places.specs.Place.{countsIn, vertexAddress}
 use Rattle.best_list.specs.Best.{offeredAll}
 use Rattle.best_list.proofs.Offers.{bestOf, offered-more}
 use Rattle.van_offers.specs.Offers.{vanOffers, rowOwner, vertexOffers, rowOffers}
-use Rattle.part_words.specs.Part.{partWord, rowsIn}
+use Rattle.layout.specs.Layout.{partWord}
+use Rattle.part_words.specs.Part.{rowsIn}
 use Rattle.row_lists.specs.Rows.{showsOwn}
 use Rattle.van_offers.specs.Genuine.{Genuine}
 use Rattle.van_offers.proofs.Heading.{Comer, offers-say, offers-have, offers-distinct, head-below, head-active, idle-link}
@@ -83,14 +84,14 @@ module _ {m : Map} {s : State} {mem : List ℕ} (g : Genuine m s mem) (x : ℕ) 
       offersAt = vertexOffers mem (countsIn mem) (rowOwner mem first i) (word dx (rowOwner mem first i))
 
       abbrev chainOf : ℕ → ℕ → List Listed
-      chainOf near u = vanOffers mem (countsIn mem) near 1024 (word mem (vertexAt (countsIn mem) u + 4))
+      chainOf near u = vanOffers mem (countsIn mem) near 1024 (word mem (vertexAddress (countsIn mem) u + 4))
 
       -- nobody heads for a vertex that is not active
       row-idle : active m s v ≡ false → offersAt ≡ []
       unfolding offersAt vertexOffers v
       row-idle idle =
-          let none : word mem (vertexAt (countsIn mem) (rowOwner mem first i) + 4) ≡ 0 =
-          ap (λ (u : ℕ). word mem (vertexAt (countsIn mem) u + 4)) (owner-read g q hq i hi) ∙ idle-link g (rowVertex m q i) (row-below g q hq i hi) idle in
+          let none : word mem (vertexAddress (countsIn mem) (rowOwner mem first i) + 4) ≡ 0 =
+          ap (λ (u : ℕ). word mem (vertexAddress (countsIn mem) u + 4)) (owner-read g q hq i hi) ∙ idle-link g (rowVertex m q i) (row-below g q hq i hi) idle in
           ap (λ (k : ℕ). cond (ltb (word dx (rowOwner mem first i)) FAR) (vanOffers mem (countsIn mem) (word dx (rowOwner mem first i)) 1024 k) []) none
           ∙ nothing-offered (ltb (word dx (rowOwner mem first i)) FAR) (word dx (rowOwner mem first i))
 

@@ -39,8 +39,9 @@ use Rattle.image.specs.Records.{rowVertex}
 use Rattle.image.proofs.Length.{image-length}
 use Rattle.image.proofs.Words.{row-word}
 use Rattle.image.proofs.Records.{head-word, part-word, vertex-word, table-word, shown-word, vertices-start, roads-start, vans-start, rows-start, rows-end}
-use Rattle.places.specs.Place.{countsIn, vertexAt, vanAt}
-use Rattle.part_words.specs.Part.{partWord, rowsIn}
+use Rattle.places.specs.Place.{countsIn, vertexAddress, vanAddress}
+use Rattle.layout.specs.Layout.{partWord}
+use Rattle.part_words.specs.Part.{rowsIn}
 use Rattle.row_lists.specs.Rows.{ownerAt, childAt, belowAt, showsOwn, Fits}
 use Rattle.van_offers.specs.Genuine.{Genuine}
 use Rattle.van_offers.proofs.Shown.{at-word, slots, vertex-read}
@@ -62,7 +63,7 @@ one-row m p a b ha hb same =
 module _ {m : Map} {s : State} {mem : List ℕ} (g : Genuine m s mem) where
   -- The vertices.
 
-  pub leaf-read : (v : ℕ) → v < m .vertices → word mem (vertexAt (countsIn mem) v + 0) ≡ leafOf m v
+  pub leaf-read : (v : ℕ) → v < m .vertices → word mem (vertexAddress (countsIn mem) v + 0) ≡ leafOf m v
   unfolding vertexRecord
   leaf-read v hv = vertex-read g v 0 hv (omega arith)
 
@@ -228,12 +229,12 @@ module _ {m : Map} {s : State} {mem : List ℕ} (g : Genuine m s mem) where
 
   -- the row of a vertex in its leaf
   pub place-of-own : (x : ℕ) → x < m .vertices
-      → (word mem (vertexAt (countsIn mem) x + 1) < sizeOf m (leafOf m x)) × (rowVertex m (leafOf m x) (word mem (vertexAt (countsIn mem) x + 1)) ≡ x)
+      → (word mem (vertexAddress (countsIn mem) x + 1) < sizeOf m (leafOf m x)) × (rowVertex m (leafOf m x) (word mem (vertexAddress (countsIn mem) x + 1)) ≡ x)
   unfolding vertexRecord sizeOf
   place-of-own x hx =
       let tree : Tree m = sound-tree m (g .sound) in
       let rows : rowVertices m (leafOf m x) ≡ verticesOf m (leafOf m x) = rows-leaf m (leafOf m x) (tree .leaf-leaf x hx) in
-      let place : word mem (vertexAt (countsIn mem) x + 1) ≡ placeIn x (rowVertices m (leafOf m x)) = vertex-read g x 1 hx (omega arith) ∙ ap (placeIn x) (sym rows) in
+      let place : word mem (vertexAddress (countsIn mem) x + 1) ≡ placeIn x (rowVertices m (leafOf m x)) = vertex-read g x 1 hx (omega arith) ∙ ap (placeIn x) (sym rows) in
       let here = place-in x (rowVertices m (leafOf m x)) (subst⁻¹ (List·Memᴰ x) rows (vertices-has m (leafOf m x) x hx refl)) in
       (omega (arith, place, here .0), ap (rowVertex m (leafOf m x)) place ∙ here .1)
 

@@ -30,7 +30,8 @@ use Rattle.fleet.specs.State.{State, active}
 use Rattle.fleet.specs.Question.{Listed, comingFrom, sorted}
 use Rattle.image.specs.Records.{rowVertex}
 use Rattle.far_sums.specs.Least.{Least}
-use Rattle.part_words.specs.Part.{partWord, rowsIn}
+use Rattle.layout.specs.Layout.{partWord}
+use Rattle.part_words.specs.Part.{rowsIn}
 use Rattle.row_lists.specs.Rows.{ownerAt, childAt, belowAt, nearAt}
 use Rattle.part_keys.specs.Keys.{keyOf, Spread}
 use Rattle.row_distances.specs.Distances.{outOf, Closer}

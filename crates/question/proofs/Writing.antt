@@ -15,7 +15,7 @@ use Rattle.counts.specs.declared.Counts.{Counts}
 use Rattle.best_list.specs.Best.{listed, entries}
 use Rattle.best_list.proofs.Pass.{length-entries, entries-at}
 use Rattle.van_offers.specs.Offers.{stampIn}
-use Rattle.places.specs.Place.{vanAt}
+use Rattle.places.specs.Place.{vanAddress}
 use Rattle.question.specs.Kept.{written}
 
 -- three words written behind others
@@ -105,7 +105,7 @@ module _ (mem : List ℕ) (counts : Counts) (fars vans : List ℕ) (len : ℕ) (
   pub write-none : 3 * len ≤ length before → Writing (entries (stampIn mem counts) fars vans len) before 0 before
   write-none fits = writing-none (entries (stampIn mem counts) fars vans len) before (omega (arith, list-length))
 
-  pub write-more : (i : ℕ) {now now′ : List ℕ} {stamp : ℕ} → Writing (entries (stampIn mem counts) fars vans len) before i now → i < len → stamp ≡ word mem (vanAt counts (getD vans i 0) + 3)
+  pub write-more : (i : ℕ) {now now′ : List ℕ} {stamp : ℕ} → Writing (entries (stampIn mem counts) fars vans len) before i now → i < len → stamp ≡ word mem (vanAddress counts (getD vans i 0) + 3)
       → now′ ≡ set (set (set now (3 * i) (getD vans i 0)) (3 * i + 1) (getD fars i 0)) (3 * i + 2) stamp → Writing (entries (stampIn mem counts) fars vans len) before (i + 1) now′
   write-more i {now} {now′} {stamp} w h isStamp isNow =
       writing-more w (omega (arith, list-length)) {e = listed (stampIn mem counts) (getD fars i 0) (getD vans i 0)} refl

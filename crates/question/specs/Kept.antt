@@ -2,14 +2,13 @@
 -- lies outside the part climbed to.
 use mathlib.Core.Path.{_≡_}
 use mathlib.Core.Logic.{_⊎_, _≢_}
-use mathlib.Core.Bool.{Bool, true, false, _&&_}
+use mathlib.Core.Bool.{Bool, true, false}
 use mathlib.Core.List.{List, [], _++_}
 use Prim.Native.Nat.{ℕ, _+_, _*_, _≤_, _<_}
 use lib.ListN.{length, take, drop}
-use lib.Dec.{eqb, leb}
+use lib.Dec.{eqb}
 use Rattle.words.specs.Limits.{FAR}
 use Rattle.words.specs.Lists.{word, keep, gather}
-use Rattle.words.specs.Ranks.{rank}
 use Rattle.roads.specs.Map.{Map, partCount}
 use Rattle.roads.specs.Dist.{dist}
 use Rattle.parts.specs.Tree.{leafOf, holds}
@@ -17,13 +16,14 @@ use Rattle.parts.specs.Border.{boundary}
 use Rattle.rows.specs.Row.{rowOf}
 use Rattle.fleet.specs.State.{Slot, absent, present, State, slotOf, headOf, active}
 use Rattle.fleet.specs.Question.{Listed, listedWords, comingFrom, sorted, nearest}
-use Rattle.places.specs.Place.{countsIn, vertexAt}
+use Rattle.places.specs.Place.{countsIn}
 use Rattle.best_list.specs.Best.{offeredAll, InOrder}
 use Rattle.van_offers.specs.Offers.{rowOffers}
 use Rattle.van_offers.specs.Genuine.{Genuine, listOf}
 use Rattle.far_sums.specs.Least.{Least}
-use Rattle.part_words.specs.Part.{partWord, rowsIn}
-use Rattle.row_lists.specs.Rows.{showsOwn, Fits, ownRows, OwnRow}
+use Rattle.layout.specs.Layout.{partWord}
+use Rattle.part_words.specs.Part.{rowsIn}
+use Rattle.row_lists.specs.Rows.{Fits, ownRows, OwnRow}
 use Rattle.row_distances.specs.Distances.{Alone, Closer, Relaxed, outOf}
 use Rattle.part_keys.specs.Keys.{farCount}
 use Rattle.question.specs.declared.Search.{Search}
@@ -156,14 +156,6 @@ pub record Fresh (dx keys waits : List ℕ) : Type 0 where
   pub keys-length : length keys ≡ 512
   pub no-key : (q : ℕ) → q < 512 → word keys q ≡ FAR
   pub waits-length : length waits ≡ 512
-
--- the leaf of x
-abbrev pub leafIn : List ℕ → ℕ → ℕ
-leafIn mem x = word mem (vertexAt (countsIn mem) x + 0)
-
--- few are asked for, and where vans stand as in the leaf of x, k active vertices are among 8
-unfoldable pub closeBy : List ℕ → ℕ → ℕ → Bool
-closeBy mem x k = leb k 2 && leb (k * rowsIn mem (leafIn mem x)) (8 * rank (showsOwn mem (partWord mem (leafIn mem x) 2)) (rowsIn mem (leafIn mem x)))
 
 -- the words of a list, and then those of the answer that it leaves
 unfoldable pub written : List Listed → List ℕ → List ℕ

@@ -32,7 +32,7 @@ ghost use Rattle.fleet.specs.Question.{nearest};
 ghost use Rattle.part_keys.specs.Keys.{farCount};
 ghost use Rattle.best_list.specs.Best.{InOrder};
 ghost use Rattle.van_offers.specs.Genuine.{Genuine, listIn, listOf};
-ghost use Rattle.question.specs.Kept.{LeafTaken, OwnTaken, BoundOutside, Climbs, Stands, Goes, GoesOn, Fresh, closeBy, written};
+ghost use Rattle.question.specs.Kept.{LeafTaken, OwnTaken, BoundOutside, Climbs, Stands, Goes, GoesOn, Fresh, written};
 
 // A search between two turns: how many vans are listed, the part climbed to, the bound of what lies outside it, how many parts wait, and
 // from which on those that joined in the last turn.
@@ -352,13 +352,22 @@ fn search_at(
     search_on(mem, k, dx, keys, waits, places, near, asked, fars, vans, s)
 }
 
+// When a search around x comes first is for speed alone: nothing is promised of the two functions below, and another rule owes no more than to keep
+// within bounds.
+
 // For so few vans a search around x is tried.
 const FEW_ASKED: usize = 2;
 
-// A search around x is likely to be short: where vans stand as in the leaf of x, k active vertices are among some 8.
+// Where `active` of `size` vertices are active, k active vertices are among some 8.
+fn among_few(k: usize, size: usize, active: usize) -> bool
+    requires { ⌜ (k ≤ 32) × (size ≤ 128) × (active ≤ 128) ⌝ }
+{
+    k * size <= 8 * active
+}
+
+// A search around x is likely to be short, if vans stand everywhere as in the leaf of x.
 fn close_by(mem: &[u32], x: u32, k: usize) -> bool
     requires { ⌜ k ≤ 32 ⌝ }
-    ensures { λ r. ⌜ r ≡ closeBy (now (mem .entry)) x k ⌝ }
 {
     if FEW_ASKED < k {
         return false;
@@ -367,7 +376,7 @@ fn close_by(mem: &[u32], x: u32, k: usize) -> bool
     let size = rows_in(mem, leaf);
     let first = wide(part_word(mem, leaf, 2));
     let active = active_rows(mem, first, size);
-    k * size <= 8 * active
+    among_few(k, size, active)
 }
 
 // The first k of all free vans that can reach x, in order of distance and then van number.

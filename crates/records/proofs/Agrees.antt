@@ -12,7 +12,7 @@ use Rattle.words.specs.Lists.{word}
 use Rattle.words.proofs.Sums.{in-record, record-within}
 use Rattle.words.proofs.Stores.{stored-in, stored-out}
 use Rattle.records.specs.Cleared.{cleared}
-use Rattle.records.specs.Written.{Within, Written}
+use Rattle.records.specs.Written.{InRecords, Written}
 use Rattle.records.specs.Agrees.{Agrees}
 
 module _ (target : List ℕ) where
@@ -42,7 +42,7 @@ module _ (target : List ℕ) where
       → Agrees target low high start → Agrees target low high mem
   written-kept base size n recordOf start mem w low high away p = record { at = λ a from to. w .kept a (λ within. apart a from to within away) ∙ p .at a from to }
     where
-      apart : (a : ℕ) → low ≤ a → a < high → Within base size 0 n a → (high ≤ base) ⊎ (base + size * n ≤ low) → ⊥
+      apart : (a : ℕ) → low ≤ a → a < high → InRecords base size 0 n a → (high ≤ base) ⊎ (base + size * n ≤ low) → ⊥
       apart a from to x (inl before) = omega (arith, x .place)
       apart a from to x (inr after) = omega (arith, x .place, record-within size n (x .number) (x .at) (x .to) (x .inside))
 

@@ -10,7 +10,7 @@ use lib.ListN.{length}
 use lib.Seq.{sets, length-sets}
 use Rattle.words.specs.Lists.{word}
 use Rattle.words.proofs.Stores.{stored-in, stored-out}
-use Rattle.records.specs.Written.{Within, Written}
+use Rattle.records.specs.Written.{InRecords, Written}
 
 -- a record ends before the next begins
 record-before : (size j k : ℕ) → j < k → size * j + size ≤ size * k
@@ -38,7 +38,7 @@ module _ (base size : ℕ) (recordOf : ℕ → List ℕ) where
         kept = λ i away. ap (λ (l : List ℕ). word l i) e ∙ stored-out mem (base + size * k) (recordOf k) i (λ v h at. away (record { number = k; at = v; from = here; to = there; inside = omega (arith, sized); place = at })) ∙ w .kept i (λ in-old. away (more i in-old));
       }
     where
-      more : (i : ℕ) → Within base size low high i → Within base size low′ high′ i
+      more : (i : ℕ) → InRecords base size low high i → InRecords base size low′ high′ i
       more i x = record { number = x .number; at = x .at; from = new (x .number) (x .from) (x .to) .0; to = new (x .number) (x .from) (x .to) .1; inside = x .inside; place = x .place }
 
       this : (j v : ℕ) → v < size → j ≡ k → word mem′ (base + size * j + v) ≡ word (recordOf j) v

@@ -7,7 +7,7 @@ use lib.ListN.{length}
 use Rattle.words.specs.Lists.{word}
 
 -- the address i is word w of one of these records
-pub record Within (base size low high i : ℕ) : Type 0 where
+pub record InRecords (base size low high i : ℕ) : Type 0 where
   pub number : ℕ
   pub at : ℕ
   pub from : low ≤ number
@@ -19,4 +19,4 @@ pub record Within (base size low high i : ℕ) : Type 0 where
 pub record Written (base size low high : ℕ) (recordOf : ℕ → List ℕ) (mem mem′ : List ℕ) : Type 0 where
   pub long : length mem′ ≡ length mem
   pub right : (k w : ℕ) → low ≤ k → k < high → w < size → word mem′ (base + size * k + w) ≡ word (recordOf k) w
-  pub kept : (i : ℕ) → (Within base size low high i → ⊥) → word mem′ i ≡ word mem i
+  pub kept : (i : ℕ) → (InRecords base size low high i → ⊥) → word mem′ i ≡ word mem i

@@ -8,17 +8,17 @@ use Prim.Native.Nat.{ℕ, _+_}
 use native.Mathlib.Omega.{arith}
 use lib.Dec.{leb, ltb, eqb}
 use Rattle.answers.specs.Answered.{answered}
-use Rattle.answers.specs.declared.Reply.the-variants.{NoVan, AlreadyPresent, NoRoad, OffsetAboveWeight, Held, NotHeldByDesk, StampDiffers}
+use Rattle.answers.specs.declared.Reply.the-variants.{NoSuchVan, VanPresent, NoRoad, OffsetAboveWeight, VanHeld, NotHeldByDesk, StampDiffers}
 use Rattle.counts.specs.declared.Counts.{Counts}
 use Rattle.fleet.specs.State.{absent}
 use Rattle.fleet.specs.declared.Change.{Change}
 use Rattle.fleet.specs.declared.Change.the-variants.{Add, Move, Remove, Claim, Release}
 use Rattle.fleet.specs.Change.{numberOf}
 use Rattle.van_lists.specs.declared.VanWords.{VanWords}
-use Rattle.van_lists.specs.Slot.{wordsOf}
+use Rattle.van_lists.specs.Slot.{standingWords}
 use Rattle.refusals.specs.declared.Verdict.{Verdict}
 use Rattle.refusals.specs.declared.Verdict.the-variants.{Refuse, Stand}
-use Rattle.refusals.specs.Verdict.{weightIn, placing, adding, moving, removing, claiming, releasing, Judged}
+use Rattle.refusals.specs.Verdict.{weightIn, placing, adding, moving, removing, claiming, releasing, HasVerdict}
 
 -- a refusal that is neither 6 nor 7
 abbrev pub Later : Verdict → Type 0
@@ -29,10 +29,10 @@ later-if : (b : Bool) (x y : Verdict) → Later x → Later y → Later (cond b 
 later-if true x y p q = p
 later-if false x y p q = q
 
-no-van : Later (Refuse NoVan)
+no-van : Later (Refuse NoSuchVan)
 no-van = (λ e. omega arith, λ e. omega arith)
 
-held : Later (Refuse Held)
+held : Later (Refuse VanHeld)
 held = (λ e. omega arith, λ e. omega arith)
 
 module _ (state roads road weight offset : ℕ) where
@@ -48,21 +48,21 @@ module _ (state roads road weight offset : ℕ) where
 module _ (old : VanWords) where
   adding-later : (roads road weight offset : ℕ) → Later (adding old roads road weight offset)
   adding-later roads road weight offset =
-      later-if (eqb (old .state) 0) (placing 1 roads road weight offset) (Refuse AlreadyPresent) (placing-later 1 roads road weight offset) (λ e. omega arith, λ e. omega arith)
+      later-if (eqb (old .state) 0) (placing 1 roads road weight offset) (Refuse VanPresent) (placing-later 1 roads road weight offset) (λ e. omega arith, λ e. omega arith)
 
   moving-later : (roads road weight offset : ℕ) → Later (moving old roads road weight offset)
   moving-later roads road weight offset =
-      later-if (eqb (old .state) 0) (Refuse NoVan) (placing (old .state) roads road weight offset) no-van (placing-later (old .state) roads road weight offset)
+      later-if (eqb (old .state) 0) (Refuse NoSuchVan) (placing (old .state) roads road weight offset) no-van (placing-later (old .state) roads road weight offset)
 
   removing-later : Later (removing old)
   removing-later =
-      later-if (eqb (old .state) 0) (Refuse NoVan) (cond (ltb 1 (old .state)) (Refuse Held) (Stand (wordsOf absent))) no-van
-      (later-if (ltb 1 (old .state)) (Refuse Held) (Stand (wordsOf absent)) held tt)
+      later-if (eqb (old .state) 0) (Refuse NoSuchVan) (cond (ltb 1 (old .state)) (Refuse VanHeld) (Stand (standingWords absent))) no-van
+      (later-if (ltb 1 (old .state)) (Refuse VanHeld) (Stand (standingWords absent)) held tt)
 
   claiming-later : (stamp desk : ℕ) → Later (claiming old stamp desk)
   claiming-later stamp desk =
-      later-if (eqb (old .state) 0) (Refuse NoVan) (cond (eqb (old .state) 1) same (Refuse Held)) no-van
-      (later-if (eqb (old .state) 1) same (Refuse Held) (later-if (eqb (old .stamp) stamp) stands (Refuse StampDiffers) tt (λ e. omega arith, λ e. omega arith)) held)
+      later-if (eqb (old .state) 0) (Refuse NoSuchVan) (cond (eqb (old .state) 1) same (Refuse VanHeld)) no-van
+      (later-if (eqb (old .state) 1) same (Refuse VanHeld) (later-if (eqb (old .stamp) stamp) stands (Refuse StampDiffers) tt (λ e. omega arith, λ e. omega arith)) held)
     where
       stands : Verdict
       stands = Stand (record { state = desk + 1; road = old .road; offset = old .offset; stamp = 0 })
@@ -72,13 +72,13 @@ module _ (old : VanWords) where
 
   releasing-later : (desk : ℕ) → Later (releasing old desk)
   releasing-later desk =
-      later-if (eqb (old .state) 0) (Refuse NoVan) (cond (eqb (old .state) (desk + 1)) stands (Refuse NotHeldByDesk)) no-van
+      later-if (eqb (old .state) 0) (Refuse NoSuchVan) (cond (eqb (old .state) (desk + 1)) stands (Refuse NotHeldByDesk)) no-van
       (later-if (eqb (old .state) (desk + 1)) stands (Refuse NotHeldByDesk) tt (λ e. omega arith, λ e. omega arith))
     where
       stands : Verdict
       stands = Stand (record { state = 1; road = old .road; offset = old .offset; stamp = 0 })
 
-pub judged-later : (mem : List ℕ) (counts : Counts) (old : VanWords) (c : Change) (verdict : Verdict) → Judged mem counts old c verdict → Later verdict
+pub judged-later : (mem : List ℕ) (counts : Counts) (old : VanWords) (c : Change) (verdict : Verdict) → HasVerdict mem counts old c verdict → Later verdict
 judged-later mem counts old (Add van u v offset) verdict j = subst⁻¹ Later (j .is) (adding-later old (counts .roads) (j .road) (weightIn mem counts (j .road)) offset)
 judged-later mem counts old (Move van u v offset) verdict j = subst⁻¹ Later (j .is) (moving-later old (counts .roads) (j .road) (weightIn mem counts (j .road)) offset)
 judged-later mem counts old (Remove van) verdict j = subst⁻¹ Later j (removing-later old)

@@ -10,7 +10,7 @@ use Rattle.fleet.specs.declared.Change.{Change}
 use Rattle.van_lists.specs.declared.VanWords.{VanWords}
 use Rattle.road_lookup.specs.Lookup.{Between}
 use Rattle.refusals.specs.declared.Verdict.{Verdict}
-use Rattle.refusals.specs.Verdict.{deskOf, weightIn, OnRoad, Judged}
+use Rattle.refusals.specs.Verdict.{deskOf, weightIn, OnRoad, HasVerdict}
 
 -- a verdict by a test: what it comes to where the test passes, and where it fails
 module _ (b : Bool) (verdict yes no : Verdict) where
@@ -28,8 +28,8 @@ pub small-as : (change kind : Change) → change ≡ kind → deskOf change < 25
 small-as change kind is small = subst (λ (k : Change). deskOf k < 256) is small
 
 module _ (mem : List ℕ) (counts : Counts) where
-  pub judged-as : (old : VanWords) (change kind : Change) (verdict : Verdict) → change ≡ kind → Judged mem counts old kind verdict → Judged mem counts old change verdict
-  judged-as old change kind verdict is j = subst (λ (k : Change). Judged mem counts old k verdict) (sym is) j
+  pub judged-as : (old : VanWords) (change kind : Change) (verdict : Verdict) → change ≡ kind → HasVerdict mem counts old kind verdict → HasVerdict mem counts old change verdict
+  judged-as old change kind verdict is j = subst (λ (k : Change). HasVerdict mem counts old k verdict) (sym is) j
 
   -- the road is found, and its weight read
   pub on-road : (u v : ℕ) (by : (road weight : ℕ) → Verdict) (verdict : Verdict) (road weight : ℕ) → Between mem counts u v road → weight ≡ weightIn mem counts road → verdict ≡ by road weight

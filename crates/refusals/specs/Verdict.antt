@@ -6,14 +6,15 @@ use mathlib.Core.List.{List}
 use Prim.Native.Nat.{ℕ, _+_}
 use lib.Dec.{leb, ltb, eqb}
 use Rattle.words.specs.Lists.{word}
-use Rattle.answers.specs.declared.Reply.the-variants.{NoVan, AlreadyPresent, NoRoad, OffsetAboveWeight, Held, NotHeldByDesk, StampDiffers}
+use Rattle.layout.specs.Layout.{road·weight}
+use Rattle.answers.specs.declared.Reply.the-variants.{NoSuchVan, VanPresent, NoRoad, OffsetAboveWeight, VanHeld, NotHeldByDesk, StampDiffers}
 use Rattle.counts.specs.declared.Counts.{Counts}
-use Rattle.places.specs.Place.{roadAt}
+use Rattle.places.specs.Place.{roadAddress}
 use Rattle.fleet.specs.State.{absent}
 use Rattle.fleet.specs.declared.Change.{Change}
 use Rattle.fleet.specs.declared.Change.the-variants.{Add, Move, Remove, Claim, Release}
 use Rattle.van_lists.specs.declared.VanWords.{VanWords}
-use Rattle.van_lists.specs.Slot.{wordsOf}
+use Rattle.van_lists.specs.Slot.{standingWords}
 use Rattle.road_lookup.specs.Lookup.{Between}
 use Rattle.refusals.specs.declared.Verdict.{Verdict}
 use Rattle.refusals.specs.declared.Verdict.the-variants.{Refuse, Stand}
@@ -28,7 +29,7 @@ deskOf (Release van desk) = desk
 
 -- the weight of a road, in any words
 abbrev pub weightIn : List ℕ → Counts → ℕ → ℕ
-weightIn mem counts road = word mem (roadAt counts road + 2)
+weightIn mem counts road = word mem (roadAddress counts road + road·weight)
 
 abbrev pub placing : (state roads road weight offset : ℕ) → Verdict
 placing state roads road weight offset =
@@ -36,24 +37,24 @@ placing state roads road weight offset =
     (cond (ltb weight offset) (Refuse OffsetAboveWeight) (Stand (record { state = state; road = road; offset = offset; stamp = 0 })))
 
 abbrev pub adding : (old : VanWords) (roads road weight offset : ℕ) → Verdict
-adding old roads road weight offset = cond (eqb (old .state) 0) (placing 1 roads road weight offset) (Refuse AlreadyPresent)
+adding old roads road weight offset = cond (eqb (old .state) 0) (placing 1 roads road weight offset) (Refuse VanPresent)
 
 abbrev pub moving : (old : VanWords) (roads road weight offset : ℕ) → Verdict
-moving old roads road weight offset = cond (eqb (old .state) 0) (Refuse NoVan) (placing (old .state) roads road weight offset)
+moving old roads road weight offset = cond (eqb (old .state) 0) (Refuse NoSuchVan) (placing (old .state) roads road weight offset)
 
 abbrev pub removing : VanWords → Verdict
-removing old = cond (eqb (old .state) 0) (Refuse NoVan) (cond (ltb 1 (old .state)) (Refuse Held) (Stand (wordsOf absent)))
+removing old = cond (eqb (old .state) 0) (Refuse NoSuchVan) (cond (ltb 1 (old .state)) (Refuse VanHeld) (Stand (standingWords absent)))
 
 abbrev pub claiming : (old : VanWords) (stamp desk : ℕ) → Verdict
 claiming old stamp desk =
-    cond (eqb (old .state) 0) (Refuse NoVan)
+    cond (eqb (old .state) 0) (Refuse NoSuchVan)
     (cond (eqb (old .state) 1)
     (cond (eqb (old .stamp) stamp) (Stand (record { state = desk + 1; road = old .road; offset = old .offset; stamp = 0 })) (Refuse StampDiffers))
-    (Refuse Held))
+    (Refuse VanHeld))
 
 abbrev pub releasing : (old : VanWords) (desk : ℕ) → Verdict
 releasing old desk =
-    cond (eqb (old .state) 0) (Refuse NoVan)
+    cond (eqb (old .state) 0) (Refuse NoSuchVan)
     (cond (eqb (old .state) (desk + 1)) (Stand (record { state = 1; road = old .road; offset = old .offset; stamp = 0 })) (Refuse NotHeldByDesk))
 
 -- a verdict on a road that is found: `by` is what its number and its weight come to
@@ -63,9 +64,9 @@ pub record OnRoad (mem : List ℕ) (counts : Counts) (u v : ℕ) (by : (road wei
   pub is : verdict ≡ by road (weightIn mem counts road)
 
 -- the verdict on a change of a van that stands as `old` says
-abbrev pub Judged : List ℕ → Counts → VanWords → Change → Verdict → Type 0
-Judged mem counts old (Add van u v offset) verdict = OnRoad mem counts u v (λ road weight. adding old (counts .roads) road weight offset) verdict
-Judged mem counts old (Move van u v offset) verdict = OnRoad mem counts u v (λ road weight. moving old (counts .roads) road weight offset) verdict
-Judged mem counts old (Remove van) verdict = verdict ≡ removing old
-Judged mem counts old (Claim van stamp desk) verdict = verdict ≡ claiming old stamp desk
-Judged mem counts old (Release van desk) verdict = verdict ≡ releasing old desk
+abbrev pub HasVerdict : List ℕ → Counts → VanWords → Change → Verdict → Type 0
+HasVerdict mem counts old (Add van u v offset) verdict = OnRoad mem counts u v (λ road weight. adding old (counts .roads) road weight offset) verdict
+HasVerdict mem counts old (Move van u v offset) verdict = OnRoad mem counts u v (λ road weight. moving old (counts .roads) road weight offset) verdict
+HasVerdict mem counts old (Remove van) verdict = verdict ≡ removing old
+HasVerdict mem counts old (Claim van stamp desk) verdict = verdict ≡ claiming old stamp desk
+HasVerdict mem counts old (Release van desk) verdict = verdict ≡ releasing old desk

@@ -4,13 +4,14 @@ use answers::Reply;
 use cells::word;
 use counts::Counts;
 use fleet::Change;
+use layout::RoadRecord;
 use places::road_at;
 use road_lookup::road_between;
 use van_lists::VanWords;
 ghost use mathlib.Core.Path.{_≡_};
 ghost use Prim.Native.Nat.{_<_};
 ghost use Rattle.fleet.specs.Change.{vanOf};
-ghost use Rattle.refusals.specs.Verdict.{deskOf, weightIn, placing, adding, moving, removing, claiming, releasing, Judged};
+ghost use Rattle.refusals.specs.Verdict.{deskOf, weightIn, placing, adding, moving, removing, claiming, releasing, HasVerdict};
 
 // The stamp of a van that is to stand is not told here.
 pub enum Verdict {
@@ -21,7 +22,7 @@ pub enum Verdict {
 fn road_weight(mem: &[u32], counts: Counts, road: u32) -> u32
     ensures { λ r. ⌜ r ≡ weightIn (now (mem .entry)) counts road ⌝ }
 {
-    word(mem, road_at(counts, road) + 2)
+    word(mem, road_at(counts, road) + RoadRecord::WEIGHT)
 }
 
 // A place on a road of this weight, one of so many; the van's first word is `state`.
@@ -46,7 +47,7 @@ fn adding(old: VanWords, roads: u32, road: u32, weight: u32, offset: u32) -> Ver
     ensures { λ r. ⌜ r ≡ adding old roads road weight offset ⌝ }
 {
     if old.state != 0 {
-        return Verdict::Refuse(Reply::AlreadyPresent);
+        return Verdict::Refuse(Reply::VanPresent);
     }
     placing(VanWords::FREE, roads, road, weight, offset)
 }
@@ -55,7 +56,7 @@ fn moving(old: VanWords, roads: u32, road: u32, weight: u32, offset: u32) -> Ver
     ensures { λ r. ⌜ r ≡ moving old roads road weight offset ⌝ }
 {
     if old.state == 0 {
-        return Verdict::Refuse(Reply::NoVan);
+        return Verdict::Refuse(Reply::NoSuchVan);
     }
     placing(old.state, roads, road, weight, offset)
 }
@@ -64,10 +65,10 @@ fn removing(old: VanWords) -> Verdict
     ensures { λ r. ⌜ r ≡ removing old ⌝ }
 {
     if old.state == 0 {
-        return Verdict::Refuse(Reply::NoVan);
+        return Verdict::Refuse(Reply::NoSuchVan);
     }
     if VanWords::FREE < old.state {
-        return Verdict::Refuse(Reply::Held);
+        return Verdict::Refuse(Reply::VanHeld);
     }
     Verdict::Stand(VanWords::ABSENT)
 }
@@ -77,10 +78,10 @@ fn claiming(old: VanWords, stamp: u32, desk: u32) -> Verdict
     ensures { λ r. ⌜ r ≡ claiming old stamp desk ⌝ }
 {
     if old.state == 0 {
-        return Verdict::Refuse(Reply::NoVan);
+        return Verdict::Refuse(Reply::NoSuchVan);
     }
     if old.state != VanWords::FREE {
-        return Verdict::Refuse(Reply::Held);
+        return Verdict::Refuse(Reply::VanHeld);
     }
     if old.stamp != stamp {
         return Verdict::Refuse(Reply::StampDiffers);
@@ -98,7 +99,7 @@ fn releasing(old: VanWords, desk: u32) -> Verdict
     ensures { λ r. ⌜ r ≡ releasing old desk ⌝ }
 {
     if old.state == 0 {
-        return Verdict::Refuse(Reply::NoVan);
+        return Verdict::Refuse(Reply::NoSuchVan);
     }
     if old.state != desk + 1 {
         return Verdict::Refuse(Reply::NotHeldByDesk);
@@ -140,7 +141,7 @@ pub fn van_of(change: Change) -> u32
 // The change of a van that stands as `old` says.
 pub fn judged(mem: &[u32], counts: Counts, old: VanWords, change: Change) -> Verdict
     requires { ⌜ deskOf change < 256 ⌝ }
-    ensures { λ r. ⌜ Judged (now (mem .entry)) counts old change r ⌝ }
+    ensures { λ r. ⌜ HasVerdict (now (mem .entry)) counts old change r ⌝ }
 {
     match change {
         Change::Add {

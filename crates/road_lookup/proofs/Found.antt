@@ -12,10 +12,10 @@ use Rattle.roads.proofs.Between.{Runs}
 use Rattle.maps.specs.Sound.{Sound}
 use Rattle.counts.specs.declared.Counts.{Counts}
 use Rattle.image.specs.Image.{firstRoadFrom}
-use Rattle.road_lookup.specs.Lookup.{endIn, firstIn, Parts, Rising, FirstTo, RoadsStand}
+use Rattle.road_lookup.specs.Lookup.{endIn, firstRoadIn, Parts, Rising, FirstTo, RoadsKnown}
 use Rattle.road_lookup.proofs.Sorted.{same-from, Starts, between-found, between-none, in-order, first-road}
 
-module _ (mem : List ℕ) (counts : Counts) (u v : ℕ) (m : Map) (sound : Sound m) (stand : RoadsStand m counts mem) where
+module _ (mem : List ℕ) (counts : Counts) (u v : ℕ) (m : Map) (sound : Sound m) (stand : RoadsKnown m counts mem) where
   from-there : (i : ℕ) → i < roadCount m → roadAt m i .from < m .vertices
   from-there i h = sound .road (roadAt m i) (entry-in (m .roads) i noRoad h) .from-exists
 
@@ -23,7 +23,7 @@ module _ (mem : List ℕ) (counts : Counts) (u v : ℕ) (m : Map) (sound : Sound
   no-vertex out =
       stand .roads ∙ sym (between-none (m .roads) u v (λ j h runs. omega (arith, from-there j h, stand .vertices, runs .0)))
 
-  first-is : (w : ℕ) → w ≤ m .vertices → firstIn mem counts w ≡ firstRoadFrom m w
+  first-is : (w : ℕ) → w ≤ m .vertices → firstRoadIn mem counts w ≡ firstRoadFrom m w
   first-is w h =
       elim (decLt w (m .vertices)) [
         | yes vertex ↦ rw (lt-ltb w (counts .vertices) (omega (arith, stand .vertices))) (stand .first w vertex)
@@ -38,7 +38,7 @@ module _ (mem : List ℕ) (counts : Counts) (u v : ℕ) (m : Map) (sound : Sound
             | no all ↦ omega (arith, s .few)
           ]
 
-  module _ (vertex : u < counts .vertices) (low high road : ℕ) (is-low : low ≡ firstIn mem counts u) (is-high : high ≡ firstIn mem counts (u + 1))
+  module _ (vertex : u < counts .vertices) (low high road : ℕ) (is-low : low ≡ firstRoadIn mem counts u) (is-high : high ≡ firstRoadIn mem counts (u + 1))
       (searched : FirstTo (endIn mem counts) low high v road)
     where
       lower : Starts (m .roads) u low

@@ -1,24 +1,26 @@
 // The road from one vertex to another, by binary search over the roads of the first. Any numbers and any words are taken.
 use cells::word;
 use counts::Counts;
+use layout::RoadRecord;
+use layout::VertexRecord;
 use places::road_at;
 use places::vertex_at;
 ghost use mathlib.Core.Path.{_≡_};
-ghost use Rattle.road_lookup.specs.Lookup.{endIn, firstIn, FirstTo, Between};
+ghost use Rattle.road_lookup.specs.Lookup.{endIn, firstRoadIn, FirstTo, Between};
 
 // The end of a road.
 pub fn road_end(mem: &[u32], counts: Counts, road: u32) -> u32
     ensures { λ r. ⌜ r ≡ endIn (now (mem .entry)) counts road ⌝ }
 {
-    word(mem, road_at(counts, road) + 1)
+    word(mem, road_at(counts, road) + RoadRecord::TO)
 }
 
 // The number of a vertex's first road or, where none is, of a later vertex's; past the last vertex that of no road.
-fn first_road(mem: &[u32], counts: Counts, vertex: u32) -> u32
-    ensures { λ r. ⌜ r ≡ firstIn (now (mem .entry)) counts vertex ⌝ }
+pub fn first_road(mem: &[u32], counts: Counts, vertex: u32) -> u32
+    ensures { λ r. ⌜ r ≡ firstRoadIn (now (mem .entry)) counts vertex ⌝ }
 {
     if vertex < counts.vertices {
-        word(mem, vertex_at(counts, vertex) + 2)
+        word(mem, vertex_at(counts, vertex) + VertexRecord::ROADS)
     } else {
         counts.roads
     }

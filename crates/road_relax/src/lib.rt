@@ -1,5 +1,6 @@
 // Roads relaxed: a road whose offer is less than the label of its end lowers it, and the end waits.
 use cells::wide;
+use layout::RoadRecord;
 use waiting::long;
 use waiting::lower;
 ghost use mathlib.Core.Path.{_≡_};
@@ -22,8 +23,8 @@ fn relax_road(
     ensures { λ _. ⌜ now (labels .exit) ≡ relax (shownRoad (now (mem .entry)) at) (now (labels .entry)) ⌝ }
     ensures { λ _. ⌜ now (keys .exit) ≡ wake (shownRoad (now (mem .entry)) at) (now (labels .entry)) (now (keys .entry)) ⌝ }
 {
-    let to = wide(mem[at + 1]);
-    let offer = long(labels[u]) + long(mem[at + 2]);
+    let to = wide(mem[at + RoadRecord::TO]);
+    let offer = long(labels[u]) + long(mem[at + RoadRecord::WEIGHT]);
     if offer < long(labels[to]) {
         let label = offer as u32;
         labels[to] = label;
@@ -51,7 +52,7 @@ pub fn relax_out(
     let mut left = k;
     while 0 < left {
         relax_road(mem, here, u, labels, keys, tree);
-        here += 4;
+        here += RoadRecord::WORDS;
         left -= 1;
     }
 }

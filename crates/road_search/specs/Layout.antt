@@ -7,13 +7,14 @@ use lib.Dec.{ltb}
 use lib.ListN.{length}
 use Rattle.words.specs.Limits.{mostVertices, mostWeight}
 use Rattle.words.specs.Lists.{word, keep}
+use Rattle.layout.specs.Layout.{vertex·words, vertex·roads, road·words}
 use Rattle.roads.specs.Map.{Road, Map, roadCount}
 use Rattle.roads.specs.Dist.{dist}
 use Rattle.road_relax.specs.Relaxing.{shownRoad, shownRoads}
 
 -- the number of the first road out of v, in word 2 of its record
 abbrev pub firstOut : List ℕ → ℕ → ℕ → ℕ
-firstOut mem vertices v = word mem (vertices + 8 * v + 2)
+firstOut mem vertices v = word mem (vertices + vertex·words * v + vertex·roads)
 
 -- the number after that of the last road out of v: the next vertex's first, and past all roads for the last vertex
 abbrev pub nextOut : List ℕ → ℕ → ℕ → ℕ → ℕ → ℕ
@@ -22,7 +23,7 @@ nextOut mem vertices n count v = cond (ltb (v + 1) n) (firstOut mem vertices (v 
 -- the roads out of v
 unfoldable pub roadsOut : List ℕ → ℕ → ℕ → ℕ → ℕ → ℕ → List Road
 roadsOut mem vertices n roads count v =
-    shownRoads mem (roads + 4 * firstOut mem vertices v) (nextOut mem vertices n count v - firstOut mem vertices v)
+    shownRoads mem (roads + road·words * firstOut mem vertices v) (nextOut mem vertices n count v - firstOut mem vertices v)
 
 -- vertex v, of a map with n vertices and `count` roads: its first road out is no later than the next vertex's, nor than past all roads
 pub record LaidVertex (mem : List ℕ) (vertices n count v : ℕ) : Type 0 where
@@ -40,10 +41,10 @@ pub record LaidRoad (mem : List ℕ) (vertices n j : ℕ) (r : Road) : Type 0 wh
 -- a map with n vertices, of 8 words each from `vertices` on, and `count` roads, of 4 words each from `roads` on
 pub record LaidMap (mem : List ℕ) (vertices n roads count : ℕ) : Type 0 where
   pub few : n ≤ mostVertices
-  pub vertices-fit : vertices + 8 * n ≤ length mem
-  pub roads-fit : roads + 4 * count ≤ length mem
+  pub vertices-fit : vertices + vertex·words * n ≤ length mem
+  pub roads-fit : roads + road·words * count ≤ length mem
   pub vertex : (v : ℕ) → v < n → LaidVertex mem vertices n count v
-  pub road : (j : ℕ) → j < count → LaidRoad mem vertices n j (shownRoad mem (roads + 4 * j))
+  pub road : (j : ℕ) → j < count → LaidRoad mem vertices n j (shownRoad mem (roads + road·words * j))
 
 -- how many roads leave a lower vertex than v
 abbrev pub lowerRoads : List Road → ℕ → ℕ
@@ -51,8 +52,8 @@ lowerRoads rs v = length (keep (λ r. ltb (r .from) v) rs)
 
 -- the words show the roads of the map m, and of each vertex the number of its first road out
 pub record Shown (mem : List ℕ) (vertices roads : ℕ) (m : Map) : Type 0 where
-  pub vertices-fit : vertices + 8 * m .vertices ≤ length mem
-  pub roads-fit : roads + 4 * roadCount m ≤ length mem
+  pub vertices-fit : vertices + vertex·words * m .vertices ≤ length mem
+  pub roads-fit : roads + road·words * roadCount m ≤ length mem
   pub all-roads : shownRoads mem roads (roadCount m) ≡ m .roads
   pub first-out : (v : ℕ) → v < m .vertices → firstOut mem vertices v ≡ lowerRoads (m .roads) v
 

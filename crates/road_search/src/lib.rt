@@ -1,6 +1,8 @@
 // The distances from one vertex to all others, by labels that fall: a vertex whose label fell waits, and is taken to relax its roads out.
 // The result does not depend on the order in which the waiting vertices are taken.
 use cells::wide;
+use layout::RoadRecord;
+use layout::VertexRecord;
 use road_relax::relax_out;
 use waiting::FAR;
 use waiting::NO_KEY;
@@ -10,6 +12,7 @@ ghost use mathlib.Core.Path.{_≡_};
 ghost use Prim.Native.Nat.{_+_, _*_, _≤_, _<_};
 ghost use lib.ListN.{length, set};
 ghost use Rattle.words.specs.Limits.{FAR, mostVertices};
+ghost use Rattle.layout.specs.Layout.{vertex·words};
 ghost use Rattle.roads.specs.Dist.{relaxAll};
 ghost use Rattle.road_relax.specs.Relaxing.{wakeAll};
 ghost use Rattle.road_search.specs.Layout.{LaidMap, Measured, nextOut, roadsOut};
@@ -17,12 +20,12 @@ ghost use Rattle.road_search.specs.Start.{begun};
 
 // The number after that of the last road out of `u`.
 fn next_out(mem: &[u32], vertices_at: usize, n: usize, count: usize, u: usize) -> usize
-    requires { ⌜ «vertices_at» + 8 * n ≤ length (now mem) ⌝ }
+    requires { ⌜ «vertices_at» + vertex·words * n ≤ length (now mem) ⌝ }
     requires { ⌜ u < n ⌝ }
     ensures { λ r. ⌜ r ≡ nextOut (now (mem .entry)) «vertices_at» n count u ⌝ }
 {
     if u + 1 < n {
-        return wide(mem[vertices_at + 8 * (u + 1) + 2]);
+        return wide(mem[vertices_at + VertexRecord::WORDS * (u + 1) + VertexRecord::ROADS]);
     }
     count
 }
@@ -47,11 +50,11 @@ fn turn(
 {
     keys[u] = FAR;
     raise(keys, tree, u);
-    let first = wide(mem[vertices_at + 8 * u + 2]);
+    let first = wide(mem[vertices_at + VertexRecord::WORDS * u + VertexRecord::ROADS]);
     let next = next_out(mem, vertices_at, n, count, u);
     relax_out(
         mem,
-        roads_at + 4 * first,
+        roads_at + RoadRecord::WORDS * first,
         next - first,
         u,
         labels,

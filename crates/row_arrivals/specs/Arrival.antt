@@ -5,6 +5,7 @@ use mathlib.Core.List.{List, [], _∷_}
 use lib.Dec.{eqb, ltb}
 use Rattle.words.specs.Limits.{FAR}
 use Rattle.words.specs.Lists.{word}
+use Rattle.layout.specs.Layout.{row·words}
 use Rattle.rows.specs.declared.Row.{Row}
 use Rattle.rows.specs.Row.{comesBefore}
 use Rattle.row_words.specs.Words.{rowIn, shown, sourceIn, placed}
@@ -28,7 +29,7 @@ placedSeen v x d = cond (ltb (x + d) FAR) (placed v (x + d)) 1844674407370955161
 -- v at distance x is offered to `left` rows from `to` on, with the distances that stand from `at` on
 unfoldable pub spread : ℕ → List ℕ → ℕ → ℕ → ℕ → ℕ → List ℕ
 spread zero mem to at v x = mem
-spread (suc left) mem to at v x = spread left (offered mem to v x (word mem at)) (to + 4) (at + 1) v x
+spread (suc left) mem to at v x = spread left (offered mem to v x (word mem at)) (to + row·words) (at + 1) v x
 
 -- the source of a row shows v, and comes before what the row itself shows
 unfoldable pub isNews : List ℕ → ℕ → ℕ → Bool
@@ -41,17 +42,17 @@ met mem rows size v row line = cond (isNews mem v row) (spread size mem rows lin
 -- v arrived: this for the sources of the rows with these numbers
 unfoldable pub arrived : List ℕ → List ℕ → ℕ → ℕ → ℕ → ℕ → List ℕ
 arrived [] mem rows table size v = mem
-arrived (i ∷ numbers) mem rows table size v = arrived numbers (met mem rows size v (rows + 4 * i) (table + size * i)) rows table size v
+arrived (i ∷ numbers) mem rows table size v = arrived numbers (met mem rows size v (rows + row·words * i) (table + size * i)) rows table size v
 
 -- some source was offered, or `any` is true already
 unfoldable pub anyNews : Bool → List ℕ → List ℕ → ℕ → ℕ → ℕ → ℕ → Bool
 anyNews any [] mem rows table size v = any
-anyNews any (i ∷ numbers) mem rows table size v = anyNews (isNews mem v (rows + 4 * i) || any) numbers (met mem rows size v (rows + 4 * i) (table + size * i)) rows table size v
+anyNews any (i ∷ numbers) mem rows table size v = anyNews (isNews mem v (rows + row·words * i) || any) numbers (met mem rows size v (rows + row·words * i) (table + size * i)) rows table size v
 
 -- the least of `best` and of the places of these numbers, each at its source's distance
 unfoldable pub leadFrom : List ℕ → List ℕ → ℕ → ℕ → ℕ
 leadFrom [] mem rows best = best
-leadFrom (i ∷ numbers) mem rows best = leadFrom numbers mem rows (min best (placed i (sourceIn mem (rows + 4 * i) .distance)))
+leadFrom (i ∷ numbers) mem rows best = leadFrom numbers mem rows (min best (placed i (sourceIn mem (rows + row·words * i) .distance)))
 
 -- the number of one whose source is the nearest of these
 abbrev pub lead : List ℕ → List ℕ → ℕ → ℕ

@@ -1,6 +1,7 @@
 // A vertex became active: it is offered to the rows of a part by way of the sources that show it.
 use cells::lesser_wide;
 use cells::wide;
+use layout::RowRecord;
 use row_words::place;
 use row_words::row_of;
 use row_words::source;
@@ -10,6 +11,7 @@ ghost use mathlib.Core.Bool.{false, _||_};
 ghost use mathlib.Core.List.{_∷_};
 ghost use Prim.Native.Nat.{_+_, _*_, _≤_, _<_};
 ghost use lib.ListN.{length};
+ghost use Rattle.layout.specs.Layout.{row·words};
 ghost use Rattle.rows.specs.Row.{comesBefore};
 ghost use Rattle.listing.specs.Lists.{EachBelow};
 ghost use Rattle.row_words.specs.Words.{rowIn, unplaced};
@@ -51,7 +53,7 @@ fn offer(mem: &mut [u32], to: usize, v: u32, x: u32, d: u32)
 
 // Vertex v at distance x is offered to `size` rows, with the distances of a line of the table.
 fn spread_line(mem: &mut [u32], rows: usize, line: usize, size: usize, v: u32, x: u32)
-    requires { ⌜ (rows + 4 * size ≤ length (now mem)) × (line + size ≤ length (now mem)) ⌝ }
+    requires { ⌜ (rows + row·words * size ≤ length (now mem)) × (line + size ≤ length (now mem)) ⌝ }
     ensures { λ _. ⌜ now (mem .exit) ≡ spread size (now (mem .entry)) rows line v x ⌝ }
 {
     let mut to = rows;
@@ -60,7 +62,7 @@ fn spread_line(mem: &mut [u32], rows: usize, line: usize, size: usize, v: u32, x
     while 0 < left {
         let d = mem[at];
         offer(mem, to, v, x, d);
-        to += 4;
+        to += RowRecord::WORDS;
         at += 1;
         left -= 1;
     }
@@ -85,10 +87,10 @@ fn meet(
     i: usize,
     any: bool,
 ) -> bool
-    requires { ⌜ (rows + 4 * size ≤ length (now mem)) × (table + size * size ≤ length (now mem)) × (size ≤ 128) × (i < size) ⌝ }
-    ensures { λ r. ⌜ (now (mem .exit) ≡ met (now (mem .entry)) rows size v (rows + 4 * i) (table + size * i)) × (r ≡ (isNews (now (mem .entry)) v (rows + 4 * i) || any)) ⌝ }
+    requires { ⌜ (rows + row·words * size ≤ length (now mem)) × (table + size * size ≤ length (now mem)) × (size ≤ 128) × (i < size) ⌝ }
+    ensures { λ r. ⌜ (now (mem .exit) ≡ met (now (mem .entry)) rows size v (rows + row·words * i) (table + size * i)) × (r ≡ (isNews (now (mem .entry)) v (rows + row·words * i) || any)) ⌝ }
 {
-    let row = rows + 4 * i;
+    let row = rows + RowRecord::WORDS * i;
     let s = source(mem, row);
     if s.vertex == v {
         if comes_first(mem, s, row) {
@@ -109,7 +111,7 @@ fn meet_all(
     v: u32,
     already: bool,
 ) -> bool
-    requires { ⌜ (rows + 4 * size ≤ length (now mem)) × (table + size * size ≤ length (now mem)) × (size ≤ 128) × EachBelow size (now numbers) ⌝ }
+    requires { ⌜ (rows + row·words * size ≤ length (now mem)) × (table + size * size ≤ length (now mem)) × (size ≤ 128) × EachBelow size (now numbers) ⌝ }
     ensures { λ r. ⌜ (now (mem .exit) ≡ arrived (now (numbers .entry)) (now (mem .entry)) rows table size v) × (r ≡ anyNews already (now (numbers .entry)) (now (mem .entry)) rows table size v) ⌝ }
 {
     let n = numbers.len();
@@ -124,7 +126,7 @@ fn meet_all(
 
 // Of the rows with these numbers one whose source is the nearest: its number.
 fn nearest_number(mem: &[u32], numbers: &[u32], rows: usize, size: usize) -> usize
-    requires { ⌜ (rows + 4 * size ≤ length (now mem)) × (size ≤ 128) × EachBelow size (now numbers) ⌝ }
+    requires { ⌜ (rows + row·words * size ≤ length (now mem)) × (size ≤ 128) × EachBelow size (now numbers) ⌝ }
     ensures { λ r. ⌜ r ≡ lead (now (numbers .entry)) (now (mem .entry)) rows ⌝ }
 {
     let n = numbers.len();
@@ -132,7 +134,7 @@ fn nearest_number(mem: &[u32], numbers: &[u32], rows: usize, size: usize) -> usi
     let mut k = 0;
     while k < n {
         let i = numbers[k];
-        let s = source(mem, rows + 4 * wide(i));
+        let s = source(mem, rows + RowRecord::WORDS * wide(i));
         best = lesser_wide(best, place(i, s.distance));
         k += 1;
     }
@@ -148,7 +150,7 @@ pub fn meet_led(
     size: usize,
     v: u32,
 ) -> bool
-    requires { ⌜ (rows + 4 * size ≤ length (now mem)) × (table + size * size ≤ length (now mem)) × (size ≤ 128) × (0 < size) × EachBelow size (now numbers) ⌝ }
+    requires { ⌜ (rows + row·words * size ≤ length (now mem)) × (table + size * size ≤ length (now mem)) × (size ≤ 128) × (0 < size) × EachBelow size (now numbers) ⌝ }
     ensures { λ r. ⌜ (now (mem .exit) ≡ arrived (lead (now (numbers .entry)) (now (mem .entry)) rows ∷ now (numbers .entry)) (now (mem .entry)) rows table size v) × (r ≡ anyNews false (lead (now (numbers .entry)) (now (mem .entry)) rows ∷ now (numbers .entry)) (now (mem .entry)) rows table size v) ⌝ }
 {
     let i = nearest_number(mem, numbers, rows, size);

@@ -6,13 +6,14 @@ use lib.ListN.{length}
 use lib.Dec.{ltb}
 use Rattle.words.specs.Limits.{FAR}
 use Rattle.words.specs.Lists.{word, upTo, keep}
+use Rattle.layout.specs.Layout.{row·words, row·distance}
 use Rattle.rows.specs.declared.Row.{Row}
 use Rattle.rows.specs.Row.{emptyRow}
 use Rattle.row_words.specs.Words.{shown, sourceIn}
 
 -- the numbers of the rows whose source is not empty
 unfoldable pub filled : List ℕ → ℕ → ℕ → List ℕ
-filled mem rows size = keep (λ i. ltb (sourceIn mem (rows + 4 * i) .distance) FAR) (upTo size)
+filled mem rows size = keep (λ i. ltb (sourceIn mem (rows + row·words * i) .distance) FAR) (upTo size)
 
 -- A row as a key: of two rows whose vertices are below 65,536, the one that comes before has the lesser.
 abbrev pub keyed : Row → ℕ
@@ -27,7 +28,7 @@ unkeyed key = cond (ltb key farKey) (record { vertex = key % 65536; distance = k
 
 -- the key of the source of row number i
 abbrev pub sourceKey : List ℕ → ℕ → ℕ → ℕ
-sourceKey mem rows i = keyed (sourceIn mem (rows + 4 * i))
+sourceKey mem rows i = keyed (sourceIn mem (rows + row·words * i))
 
 -- the least of `best` and of these keys, each seen as much further on as stands so many words from `column`
 unfoldable pub gathered : List ℕ → List ℕ → List ℕ → ℕ → ℕ → ℕ
@@ -39,7 +40,7 @@ gathered (key ∷ keys) (step ∷ steps) mem column best = gathered keys steps m
 unfoldable pub renewed : List ℕ → List ℕ → List ℕ → List ℕ → ℕ → ℕ → List ℕ
 renewed [] mem keys steps rows table = mem
 renewed (i ∷ numbers) mem keys steps rows table =
-    renewed numbers (shown mem (rows + 4 * i) (unkeyed (gathered keys steps mem (table + i) farKey))) keys steps rows table
+    renewed numbers (shown mem (rows + row·words * i) (unkeyed (gathered keys steps mem (table + i) farKey))) keys steps rows table
 
 -- so they are from the part's sources as they stand
 unfoldable pub remade : List ℕ → List ℕ → ℕ → ℕ → ℕ → List ℕ
@@ -61,6 +62,6 @@ pub record Steps (mem keys steps : List ℕ) (column : ℕ) : Type 0 where
 pub record Renewable (size : ℕ) (numbers keys steps : List ℕ) (rows table : ℕ) : Type 0 where
   pub long : length keys ≤ length steps
   pub small : Small (length keys) keys
-  pub row : (i : ℕ) → i < length numbers → rows + 4 * word numbers i + 1 < size
+  pub row : (i : ℕ) → i < length numbers → rows + row·words * word numbers i + row·distance < size
   pub column : (i : ℕ) → i < length numbers → table + word numbers i < size
   pub inside : (i k : ℕ) → i < length numbers → k < length keys → table + word numbers i + word steps k < size

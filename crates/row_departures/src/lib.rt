@@ -2,6 +2,7 @@
 use cells::lesser_wide;
 use cells::more;
 use cells::wide;
+use layout::RowRecord;
 use row_words::show;
 use row_words::source;
 use rows::Row;
@@ -9,6 +10,7 @@ ghost use mathlib.Core.Path.{_≡_};
 ghost use mathlib.Core.List.{map};
 ghost use Prim.Native.Nat.{_+_, _*_, _≤_, _<_};
 ghost use lib.ListN.{length, take};
+ghost use Rattle.layout.specs.Layout.{row·words};
 ghost use Rattle.listing.specs.Lists.{EachBelow};
 ghost use Rattle.row_departures.specs.Departure.{filled, farKey, unkeyed, sourceKey, gathered, renewed, remade, Small, Steps, Renewable};
 
@@ -47,14 +49,14 @@ fn list_sources(
     keys: &mut [u64],
     steps: &mut [usize],
 ) -> usize
-    requires { ⌜ (rows + 4 * size ≤ length (now mem)) × (size ≤ length (now keys)) × (size ≤ length (now steps)) × (size ≤ 128) ⌝ }
+    requires { ⌜ (rows + row·words * size ≤ length (now mem)) × (size ≤ length (now keys)) × (size ≤ length (now steps)) × (size ≤ 128) ⌝ }
     ensures { λ r. ⌜ (r ≤ size) × (take r (now (keys .exit)) ≡ map (sourceKey (now (mem .entry)) rows) (filled (now (mem .entry)) rows size)) × (take r (now (steps .exit)) ≡ map (λ i. size * i) (filled (now (mem .entry)) rows size)) × Small r (now (keys .exit)) ⌝ }
 {
     let mut step = 0;
     let mut n = 0;
     let mut i = 0;
     while i < size {
-        let s = source(mem, rows + 4 * i);
+        let s = source(mem, rows + RowRecord::WORDS * i);
         keys[n] = key(s.vertex, s.distance);
         steps[n] = step;
         n = more(n, s.distance < Row::FAR);
@@ -97,14 +99,14 @@ fn renew_all(
     while k < n {
         let i = wide(numbers[k]);
         let best = gather(mem, keys, steps, table + i);
-        show(mem, rows + 4 * i, row_of_key(best));
+        show(mem, rows + RowRecord::WORDS * i, row_of_key(best));
         k += 1;
     }
 }
 
 // The rows with these numbers are made anew from the part's sources as they stand.
 pub fn renew_part(mem: &mut [u32], numbers: &[u32], rows: usize, table: usize, size: usize)
-    requires { ⌜ (rows + 4 * size ≤ length (now mem)) × (table + size * size ≤ length (now mem)) × (size ≤ 128) × EachBelow size (now numbers) ⌝ }
+    requires { ⌜ (rows + row·words * size ≤ length (now mem)) × (table + size * size ≤ length (now mem)) × (size ≤ 128) × EachBelow size (now numbers) ⌝ }
     ensures { λ _. ⌜ now (mem .exit) ≡ remade (now (numbers .entry)) (now (mem .entry)) rows table size ⌝ }
 {
     let mut keys = [0u64; 128];

@@ -6,9 +6,10 @@ use mathlib.Core.List.{List}
 use Prim.Native.Nat.{ℕ, _+_, _*_, _≤_, _<_}
 use lib.ListN.{length}
 use lib.Dec.{eqb}
+use Rattle.layout.specs.Layout.{part·rows, part·table, partWord}
 use Rattle.words.specs.Limits.{FAR}
 use Rattle.words.specs.Lists.{word}
-use Rattle.part_words.specs.Part.{partWord, rowsIn}
+use Rattle.part_words.specs.Part.{rowsIn}
 use Rattle.row_lists.specs.Rows.{ownerAt, childAt, nearAt, AskedRow}
 
 -- the way by the t-th of the known places
@@ -33,7 +34,7 @@ pub record Closer (mem : List ℕ) (first table size : ℕ) (dx : List ℕ) (Ask
 
 -- the distances of a part's rows were made less: of all, or of those below which something is shown
 abbrev pub Relaxed : List ℕ → ℕ → Bool → List ℕ → List ℕ → Type 0
-Relaxed mem p all dx dx′ = Closer mem (partWord mem p 2) (partWord mem p 3) (rowsIn mem p) dx (AskedRow all mem (partWord mem p 2) (rowsIn mem p) dx) dx′
+Relaxed mem p all dx dx′ = Closer mem (partWord mem p part·rows) (partWord mem p part·table) (rowsIn mem p) dx (AskedRow all mem (partWord mem p part·rows) (rowsIn mem p) dx) dx′
 
 -- Only the row at `place` has a distance, 0.
 pub record Alone (mem : List ℕ) (first size : ℕ) (dx : List ℕ) (place : ℕ) : Type 0 where

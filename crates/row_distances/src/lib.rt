@@ -4,6 +4,8 @@ use cells::more;
 use cells::wide;
 use cells::word;
 use far_sums::FAR;
+use layout::PartRecord;
+use layout::RowRecord;
 use part_words::part_rows;
 use part_words::part_word;
 use part_words::rows_in;
@@ -13,10 +15,11 @@ ghost use mathlib.Core.Path.{_≡_};
 ghost use mathlib.Core.Bool.{Bool, true};
 ghost use Prim.Native.Nat.{ℕ, _+_, _*_, _≤_, _<_, _^_};
 ghost use lib.ListN.{length, take};
+ghost use Rattle.layout.specs.Layout.{part·rows, part·table, row·words, partWord};
 ghost use Rattle.words.specs.Lists.{word};
 ghost use Rattle.far_sums.specs.Least.{Least};
 ghost use Rattle.listing.specs.Lists.{Among, Lists};
-ghost use Rattle.part_words.specs.Part.{partWord, rowsIn};
+ghost use Rattle.part_words.specs.Part.{rowsIn};
 ghost use Rattle.row_lists.specs.Rows.{Fits, showsOwn, ownRows, Looked, AskedRow, OwnRow};
 ghost use Rattle.row_distances.specs.Distances.{wayOver, Closer, Relaxed, Alone, outOf};
 
@@ -51,10 +54,10 @@ fn relax_asked(
     asked: &[u32; 128],
     count: usize,
 )
-    requires { ⌜ (first < 2 ^ 32) × (table < 2 ^ 32) × (size ≤ 128) × (first + 4 * size ≤ length (now mem)) × (table + size * size ≤ length (now mem)) × ((test : ℕ → Bool) × Looked (now mem) first (now dx) test size (now places) (now near) known (now asked) count) ⌝ }
+    requires { ⌜ (first < 2 ^ 32) × (table < 2 ^ 32) × (size ≤ 128) × (first + row·words * size ≤ length (now mem)) × (table + size * size ≤ length (now mem)) × ((test : ℕ → Bool) × Looked (now mem) first (now dx) test size (now places) (now near) known (now asked) count) ⌝ }
     ensures { λ _. ⌜ Closer (now (mem .entry)) first table size (now (dx .entry)) (Among (now (asked .entry)) count) (now (dx .exit)) ⌝ }
 {
-    let end = first + 4 * size;
+    let end = first + RowRecord::WORDS * size;
     let rows = &mem[first..end];
     let mut t = 0;
     while t < count {
@@ -63,7 +66,11 @@ fn relax_asked(
         let past = at + size;
         let row = &mem[at..past];
         let way = least_in(row, places, near, known);
-        lower(dx, wide(rows[4 * i + 2] % 65536), way);
+        lower(
+            dx,
+            wide(rows[RowRecord::WORDS * i + RowRecord::OWN] % RowRecord::CHILD),
+            way,
+        );
         t += 1;
     }
 }
@@ -78,7 +85,7 @@ pub fn relax_leaf(
     asked: &mut [u32; 128],
 ) -> usize
     requires { ⌜ p < 2 ^ 32 ⌝ }
-    ensures { λ r. ⌜ (r ≤ 128) × (Fits (now (mem .entry)) p → Closer (now (mem .entry)) (partWord (now (mem .entry)) p 2) (partWord (now (mem .entry)) p 3) (rowsIn (now (mem .entry)) p) (now (dx .entry)) (OwnRow (now (mem .entry)) (partWord (now (mem .entry)) p 2) (rowsIn (now (mem .entry)) p)) (now (dx .exit)) × (take r (now (asked .exit)) ≡ ownRows (now (mem .entry)) p)) ⌝ }
+    ensures { λ r. ⌜ (r ≤ 128) × (Fits (now (mem .entry)) p → Closer (now (mem .entry)) (partWord (now (mem .entry)) p part·rows) (partWord (now (mem .entry)) p part·table) (rowsIn (now (mem .entry)) p) (now (dx .entry)) (OwnRow (now (mem .entry)) (partWord (now (mem .entry)) p part·rows) (rowsIn (now (mem .entry)) p)) (now (dx .exit)) × (take r (now (asked .exit)) ≡ ownRows (now (mem .entry)) p)) ⌝ }
 {
     let part = part_rows(mem, p);
     if part.within {
@@ -112,17 +119,21 @@ fn lower_rows(
     dx: &mut [u32],
     asked: &mut [u32],
 ) -> usize
-    requires { ⌜ (first < 2 ^ 32) × (table < 2 ^ 32) × (size ≤ 128) × (place < size) × (first + 4 * size ≤ length (now mem)) × (table + size * size ≤ length (now mem)) × (length (now asked) ≡ 128) ⌝ }
+    requires { ⌜ (first < 2 ^ 32) × (table < 2 ^ 32) × (size ≤ 128) × (place < size) × (first + row·words * size ≤ length (now mem)) × (table + size * size ≤ length (now mem)) × (length (now asked) ≡ 128) ⌝ }
     ensures { λ r. ⌜ (length (now (dx .exit)) ≡ length (now (dx .entry))) × Lists (showsOwn (now (mem .entry)) first) size (now (asked .exit)) r × (Alone (now (mem .entry)) first size (now (dx .entry)) place → Closer (now (mem .entry)) first table size (now (dx .entry)) (AskedRow true (now (mem .entry)) first size (now (dx .entry))) (now (dx .exit))) ⌝ }
 {
-    let end = first + 4 * size;
+    let end = first + RowRecord::WORDS * size;
     let rows = &mem[first..end];
     let mut count = 0;
     let mut i = 0;
     while i < size {
-        let shown = rows[4 * i + 1];
+        let shown = rows[RowRecord::WORDS * i + RowRecord::DISTANCE];
         let at = table + size * i + place;
-        lower(dx, wide(rows[4 * i + 2] % 65536), mem[at]);
+        lower(
+            dx,
+            wide(rows[RowRecord::WORDS * i + RowRecord::OWN] % RowRecord::CHILD),
+            mem[at],
+        );
         asked[count] = i as u32;
         count = more(count, shown == 0);
         i += 1;
@@ -140,7 +151,7 @@ pub fn relax_own(
     asked: &mut [u32; 128],
 ) -> usize
     requires { ⌜ p < 2 ^ 32 ⌝ }
-    ensures { λ r. ⌜ (r ≤ 128) × (Fits (now (mem .entry)) p → place < rowsIn (now (mem .entry)) p → (Alone (now (mem .entry)) (partWord (now (mem .entry)) p 2) (rowsIn (now (mem .entry)) p) (now (dx .entry)) place → Relaxed (now (mem .entry)) p true (now (dx .entry)) (now (dx .exit))) × (take r (now (asked .exit)) ≡ ownRows (now (mem .entry)) p)) ⌝ }
+    ensures { λ r. ⌜ (r ≤ 128) × (Fits (now (mem .entry)) p → place < rowsIn (now (mem .entry)) p → (Alone (now (mem .entry)) (partWord (now (mem .entry)) p part·rows) (rowsIn (now (mem .entry)) p) (now (dx .entry)) place → Relaxed (now (mem .entry)) p true (now (dx .entry)) (now (dx .exit))) × (take r (now (asked .exit)) ≡ ownRows (now (mem .entry)) p)) ⌝ }
 {
     let part = part_rows(mem, p);
     if part.within {
@@ -156,9 +167,9 @@ fn out_of(mem: &[u32], first: usize, i: usize, c: u32, dx: &[u32]) -> u32
     requires { ⌜ (first < 2 ^ 32) × (i ≤ 128) ⌝ }
     ensures { λ r. ⌜ r ≡ outOf (now (mem .entry)) first (now (dx .entry)) c i ⌝ }
 {
-    let owner = row_word(mem, first, i, 2);
-    if owner / 65536 == c {
-        return word(dx, wide(owner % 65536));
+    let owner = row_word(mem, first, i, RowRecord::OWN);
+    if owner / RowRecord::CHILD == c {
+        return word(dx, wide(owner % RowRecord::CHILD));
     }
     FAR
 }
@@ -166,10 +177,10 @@ fn out_of(mem: &[u32], first: usize, i: usize, c: u32, dx: &[u32]) -> u32
 // The least distance of a boundary vertex of part c, whose parent is p: nothing outside c is nearer.
 pub fn way_out(mem: &[u32], p: usize, c: u32, dx: &[u32]) -> u32
     requires { ⌜ p < 2 ^ 32 ⌝ }
-    ensures { λ r. ⌜ Least (outOf (now (mem .entry)) (partWord (now (mem .entry)) p 2) (now (dx .entry)) c) (rowsIn (now (mem .entry)) p) r ⌝ }
+    ensures { λ r. ⌜ Least (outOf (now (mem .entry)) (partWord (now (mem .entry)) p part·rows) (now (dx .entry)) c) (rowsIn (now (mem .entry)) p) r ⌝ }
 {
     let size = rows_in(mem, p);
-    let first = wide(part_word(mem, p, 2));
+    let first = wide(part_word(mem, p, PartRecord::ROWS));
     let mut least = FAR;
     let mut i = 0;
     while i < size {

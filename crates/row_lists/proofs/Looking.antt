@@ -13,7 +13,8 @@ use Rattle.words.specs.Limits.{FAR}
 use Rattle.words.specs.Lists.{word, upTo, keep}
 use Rattle.listing.specs.Lists.{Lists}
 use Rattle.listing.proofs.Listing.{Listing, listing-none, listing-more, listing-all}
-use Rattle.part_words.specs.Part.{partWord, rowsIn}
+use Rattle.layout.specs.Layout.{partWord}
+use Rattle.part_words.specs.Part.{rowsIn}
 use Rattle.row_lists.specs.Rows.{nearAt, showsOwn, ownRows, isKnown, Looked}
 
 -- The rows of a part, listed up to row i.

@@ -5,20 +5,21 @@ use mathlib.Core.List.{List}
 use Prim.Native.Nat.{ℕ, _+_, _*_, _%_, _/_, _≤_, _<_}
 use lib.ListN.{length}
 use lib.Dec.{leb, ltb, eqb}
+use Rattle.layout.specs.Layout.{part·rows, part·table, row·words, row·distance, row·own, row·child, row·below, partWord, rowWord}
 use Rattle.words.specs.Limits.{FAR}
 use Rattle.words.specs.Lists.{word, upTo, keep}
 use Rattle.listing.specs.Lists.{Lists}
-use Rattle.part_words.specs.Part.{partWord, rowsIn}
+use Rattle.part_words.specs.Part.{rowsIn}
 
 -- the vertex of row i, where the rows start at `first`; the part further down; and the distance that the row further down shows
 abbrev pub ownerAt : List ℕ → ℕ → ℕ → ℕ
-ownerAt mem first i = word mem (first + 4 * i + 2) % 65536
+ownerAt mem first i = rowWord mem first i row·own % row·child
 
 abbrev pub childAt : List ℕ → ℕ → ℕ → ℕ
-childAt mem first i = word mem (first + 4 * i + 2) / 65536
+childAt mem first i = rowWord mem first i row·own / row·child
 
 abbrev pub belowAt : List ℕ → ℕ → ℕ → ℕ
-belowAt mem first i = word mem (word mem (first + 4 * i + 3) + 1)
+belowAt mem first i = word mem (rowWord mem first i row·below + row·distance)
 
 -- the distance of row i's vertex, so far
 abbrev pub nearAt : List ℕ → ℕ → List ℕ → ℕ → ℕ
@@ -30,17 +31,17 @@ Apart mem first size = (a b : ℕ) → a < size → b < size → ownerAt mem fir
 
 -- the rows and the table of a part lie within the memory, and no two rows are of one vertex
 pub record Fits (mem : List ℕ) (p : ℕ) : Type 0 where
-  pub rows : partWord mem p 2 + 4 * rowsIn mem p ≤ length mem
-  pub table : partWord mem p 3 + rowsIn mem p * rowsIn mem p ≤ length mem
-  pub apart : Apart mem (partWord mem p 2) (rowsIn mem p)
+  pub rows : partWord mem p part·rows + row·words * rowsIn mem p ≤ length mem
+  pub table : partWord mem p part·table + rowsIn mem p * rowsIn mem p ≤ length mem
+  pub apart : Apart mem (partWord mem p part·rows) (rowsIn mem p)
 
 -- row i shows its own vertex: the vertex at distance 0
 unfoldable pub showsOwn : List ℕ → ℕ → ℕ → Bool
-showsOwn mem first i = eqb (word mem (first + 4 * i + 1)) 0
+showsOwn mem first i = eqb (rowWord mem first i row·distance) 0
 
 -- the numbers of the rows of a part that show their own vertex
 abbrev pub ownRows : List ℕ → ℕ → List ℕ
-ownRows mem p = keep (showsOwn mem (partWord mem p 2)) (upTo (rowsIn mem p))
+ownRows mem p = keep (showsOwn mem (partWord mem p part·rows)) (upTo (rowsIn mem p))
 
 -- a row whose vertex has a distance
 unfoldable pub isKnown : List ℕ → ℕ → List ℕ → ℕ → Bool

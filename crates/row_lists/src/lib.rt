@@ -4,11 +4,13 @@ use cells::more;
 use cells::wide;
 use cells::word;
 use far_sums::FAR;
+use layout::RowRecord;
 ghost use mathlib.Core.Path.{_≡_};
 ghost use mathlib.Core.Bool.{_&&_, _||_};
 ghost use Prim.Native.Nat.{_+_, _*_, _≤_, _<_, _^_};
 ghost use lib.ListN.{length};
 ghost use lib.Dec.{leb, ltb};
+ghost use Rattle.layout.specs.Layout.{row·words};
 ghost use Rattle.words.specs.Limits.{FAR};
 ghost use Rattle.words.specs.Lists.{word};
 ghost use Rattle.words.specs.Ranks.{rank};
@@ -16,10 +18,10 @@ ghost use Rattle.row_lists.specs.Rows.{showsOwn, Looked, isAsked};
 
 // Word w of row i, where the rows start at `first`.
 pub fn row_word(mem: &[u32], first: usize, i: usize, w: usize) -> u32
-    requires { ⌜ (first < 2 ^ 32) × (i ≤ 128) × (w < 4) ⌝ }
-    ensures { λ r. ⌜ r ≡ word (now (mem .entry)) (first + 4 * i + w) ⌝ }
+    requires { ⌜ (first < 2 ^ 32) × (i ≤ 128) × (w < row·words) ⌝ }
+    ensures { λ r. ⌜ r ≡ word (now (mem .entry)) (first + row·words * i + w) ⌝ }
 {
-    word(mem, first + 4 * i + w)
+    word(mem, first + RowRecord::WORDS * i + w)
 }
 
 // How many of a leaf's rows show their own vertex: those of its active vertices.
@@ -30,7 +32,7 @@ pub fn active_rows(mem: &[u32], first: usize, size: usize) -> usize
     let mut n = 0;
     let mut i = 0;
     while i < size {
-        let near = row_word(mem, first, i, 1);
+        let near = row_word(mem, first, i, RowRecord::DISTANCE);
         n = more(n, near == 0);
         i += 1;
     }
@@ -67,19 +69,19 @@ pub fn look(
     near: &mut [u32],
     asked: &mut [u32],
 ) -> Listed
-    requires { ⌜ (first < 2 ^ 32) × (size ≤ 128) × (first + 4 * size ≤ length (now mem)) × (length (now places) ≡ 128) × (length (now near) ≡ 128) × (length (now asked) ≡ 128) ⌝ }
+    requires { ⌜ (first < 2 ^ 32) × (size ≤ 128) × (first + row·words * size ≤ length (now mem)) × (length (now places) ≡ 128) × (length (now near) ≡ 128) × (length (now asked) ≡ 128) ⌝ }
     ensures { λ r. ⌜ Looked (now (mem .entry)) first (now (dx .entry)) (isAsked all (now (mem .entry)) first (now (dx .entry))) size (now (places .exit)) (now (near .exit)) (r .known) (now (asked .exit)) (r .asked) ⌝ }
 {
-    let end = first + 4 * size;
+    let end = first + RowRecord::WORDS * size;
     let rows = &mem[first..end];
     let mut known = 0;
     let mut count = 0;
     let mut i = 0;
     while i < size {
-        let owner = rows[4 * i + 2];
-        let below = wide(rows[4 * i + 3]);
-        let d = word(dx, wide(owner % 65536));
-        let is = is_asked(d, word(mem, below + 1), all);
+        let owner = rows[RowRecord::WORDS * i + RowRecord::OWN];
+        let below = wide(rows[RowRecord::WORDS * i + RowRecord::BELOW]);
+        let d = word(dx, wide(owner % RowRecord::CHILD));
+        let is = is_asked(d, word(mem, below + RowRecord::DISTANCE), all);
         places[known] = i as u32;
         near[known] = d;
         asked[count] = i as u32;
@@ -103,18 +105,18 @@ pub fn look_leaf(
     near: &mut [u32],
     asked: &mut [u32],
 ) -> Listed
-    requires { ⌜ (first < 2 ^ 32) × (size ≤ 128) × (first + 4 * size ≤ length (now mem)) × (length (now places) ≡ 128) × (length (now near) ≡ 128) × (length (now asked) ≡ 128) ⌝ }
+    requires { ⌜ (first < 2 ^ 32) × (size ≤ 128) × (first + row·words * size ≤ length (now mem)) × (length (now places) ≡ 128) × (length (now near) ≡ 128) × (length (now asked) ≡ 128) ⌝ }
     ensures { λ r. ⌜ Looked (now (mem .entry)) first (now (dx .entry)) (showsOwn (now (mem .entry)) first) size (now (places .exit)) (now (near .exit)) (r .known) (now (asked .exit)) (r .asked) ⌝ }
 {
-    let end = first + 4 * size;
+    let end = first + RowRecord::WORDS * size;
     let rows = &mem[first..end];
     let mut known = 0;
     let mut count = 0;
     let mut i = 0;
     while i < size {
-        let shown = rows[4 * i + 1];
-        let owner = rows[4 * i + 2];
-        let d = word(dx, wide(owner % 65536));
+        let shown = rows[RowRecord::WORDS * i + RowRecord::DISTANCE];
+        let owner = rows[RowRecord::WORDS * i + RowRecord::OWN];
+        let d = word(dx, wide(owner % RowRecord::CHILD));
         places[known] = i as u32;
         near[known] = d;
         asked[count] = i as u32;

@@ -6,19 +6,19 @@ use Prim.Native.Nat.{ℕ, _+_, _*_, _≤_, _<_}
 use native.Mathlib.Decide.{ℕ-discrete, decLt}
 use native.Mathlib.Omega.{arith}
 use Rattle.words.proofs.Sums.{record-within, sum-below}
+use Rattle.layout.specs.Layout.{row·words, row·distance, partAt}
 use Rattle.roads.specs.Map.{Map, partCount}
 use Rattle.parts.specs.Size.{sizeOf, tableWordsBelow, tableWords, rowsBelow, rowCount}
 use Rattle.image.specs.Places.{verticesAt, roadsAt, vansAt, tablesAt, rowsAt, itselfAt, tableOf, firstRowOf}
-use Rattle.part_words.specs.Part.{partAt}
-use Rattle.row_memory.specs.Kept.{Outside}
+use Rattle.row_memory.specs.Kept.{OutsideRows}
 
 module _ (m : Map) (p : ℕ) (hp : p < partCount m) where
   -- the rows of parts stand one after the other
-  rows-apart : (q : ℕ) → p < q → firstRowOf m p + 4 * sizeOf m p ≤ firstRowOf m q
+  rows-apart : (q : ℕ) → p < q → firstRowOf m p + row·words * sizeOf m p ≤ firstRowOf m q
   unfolding firstRowOf rowsBelow
   rows-apart q h = omega (arith, sum-below (sizeOf m) p q h)
 
-  pub rows-last : firstRowOf m p + 4 * sizeOf m p ≤ rowsAt m + 4 * rowCount m
+  pub rows-last : firstRowOf m p + row·words * sizeOf m p ≤ rowsAt m + row·words * rowCount m
   unfolding firstRowOf rowCount rowsBelow
   rows-last = omega (arith, sum-below (sizeOf m) p (partCount m) hp)
 
@@ -39,18 +39,18 @@ module _ (m : Map) (p : ℕ) (hp : p < partCount m) where
   part-before = omega arith
 
 pub itself-before : (m : Map) (u : ℕ) → u < m .vertices → itselfAt m u + 3 ≤ rowsAt m
-unfolding itselfAt rowsAt tablesAt vansAt roadsAt
+unfolding itselfAt rowsAt tablesAt vansAt roadsAt verticesAt
 itself-before m u h = omega arith
 
 -- What stands before the rows of all parts, in other parts' rows, or in word 2 or 3 of a row, is outside what a part's rows show.
 module _ (m : Map) (p : ℕ) (hp : p < partCount m) where
-  pub early : (a : ℕ) → a < rowsAt m → Outside (firstRowOf m p) (sizeOf m p) a
+  pub early : (a : ℕ) → a < rowsAt m → OutsideRows (firstRowOf m p) (sizeOf m p) a
   early a h j hj = (λ e. omega (arith, rows-first m p hp), λ e. omega (arith, rows-first m p hp))
 
-  pub beside : (q i w a : ℕ) → q < partCount m → i < sizeOf m q → w < 4 → (q ≢ p) ⊎ (2 ≤ w) → a ≡ firstRowOf m q + 4 * i + w → Outside (firstRowOf m p) (sizeOf m p) a
+  pub beside : (q i w a : ℕ) → q < partCount m → i < sizeOf m q → w < row·words → (q ≢ p) ⊎ (2 ≤ w) → a ≡ firstRowOf m q + row·words * i + w → OutsideRows (firstRowOf m p) (sizeOf m p) a
   beside q i w a hq hi hw which e j hj = by (ℕ-discrete q p) (decLt q p) which
     where
-      by : Dec (q ≡ p) → Dec (q < p) → (q ≢ p) ⊎ (2 ≤ w) → (a ≡ firstRowOf m p + 4 * j → ⊥) × (a ≡ firstRowOf m p + 4 * j + 1 → ⊥)
+      by : Dec (q ≡ p) → Dec (q < p) → (q ≢ p) ⊎ (2 ≤ w) → (a ≡ firstRowOf m p + row·words * j → ⊥) × (a ≡ firstRowOf m p + row·words * j + row·distance → ⊥)
       by (yes same) d (inl other) = absurd (other same)
       by (yes same) d (inr high) = let base = ap (firstRowOf m) same in (λ k. omega (arith, base), λ k. omega (arith, base))
       by (no other) (yes lower) k = let apart = rows-apart m q hq p lower in (λ z. omega (arith, apart), λ z. omega (arith, apart))

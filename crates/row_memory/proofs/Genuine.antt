@@ -13,6 +13,7 @@ use Rattle.words.specs.Limits.{FAR}
 use Rattle.words.specs.Lists.{word, countFrom, placeIn}
 use Rattle.words.proofs.Lists.{place-in}
 use Rattle.words.proofs.Places.{entry-in}
+use Rattle.layout.specs.Layout.{part·size, part·rows, part·table, row·words, row·distance, row·below, partAt}
 use Rattle.roads.specs.Map.{Map, partCount}
 use Rattle.roads.specs.Dist.{dist}
 use Rattle.roads.proofs.Trail.{Net}
@@ -36,9 +37,9 @@ use Rattle.row_changes.proofs.Refresh.{row-met, row-left}
 use Rattle.row_words.specs.Words.{rowIn, sourceIn}
 use Rattle.row_refresh.specs.Model.{showing, changed, touches, refreshed, touched}
 use Rattle.row_arrivals.specs.Arrival.{led}
-use Rattle.part_words.specs.Part.{partAt, rowsIn, fits}
+use Rattle.part_words.specs.Part.{rowsIn, fits}
 use Rattle.row_memory.specs.Kept.{Kept}
-use Rattle.row_memory.specs.Laid.{Few, Laid, RowsShow}
+use Rattle.row_memory.specs.Laid.{Few, LaidForRows, RowsShow}
 use Rattle.row_memory.proofs.Apart.{rows-last, table-last, table-before, part-before, itself-before, early, beside}
 use Rattle.row_memory.proofs.Offered.{Plain}
 use Rattle.row_memory.proofs.OnePart.{Ready, Triangle, Closed, arrived-rows, arrived-none}
@@ -64,32 +65,32 @@ module _ (m : Map) (net : Net m) (tree : Tree m) (p : ℕ) (hp : p < partCount m
     at-early : (a x : ℕ) → a < rowsAt m → word mem a ≡ x → word after a ≡ x
     at-early a x h e = kept .outside a (early m p hp a h) ∙ e
 
-    pub laid-kept : {isActive : ℕ → Bool} → Laid m isActive mem → Laid m isActive after
+    pub laid-kept : {isActive : ℕ → Bool} → LaidForRows m isActive mem → LaidForRows m isActive after
     laid-kept {isActive} laid =
         record {
           parent = λ q hq. at-early (partAt q) (parentOf m q) (omega (arith, part-before m q hq)) (laid .parent q hq);
-          size = λ q hq. at-early (partAt q + 1) (sizeOf m q) (omega (arith, part-before m q hq)) (laid .size q hq);
-          rows = λ q hq. at-early (partAt q + 2) (firstRowOf m q) (omega (arith, part-before m q hq)) (laid .rows q hq);
-          table = λ q hq. at-early (partAt q + 3) (tableOf m q) (omega (arith, part-before m q hq)) (laid .table q hq);
+          size = λ q hq. at-early (partAt q + part·size) (sizeOf m q) (omega (arith, part-before m q hq)) (laid .size q hq);
+          rows = λ q hq. at-early (partAt q + part·rows) (firstRowOf m q) (omega (arith, part-before m q hq)) (laid .rows q hq);
+          table = λ q hq. at-early (partAt q + part·table) (tableOf m q) (omega (arith, part-before m q hq)) (laid .table q hq);
           own = λ u hu. own u hu ∙ laid .own u hu;
           entry = λ q i j hq hi hj. at-early (tableOf m q + (sizeOf m q * i + j)) _ (table-before m q hq i j hi hj) (laid .entry q i j hq hi hj);
-          below = λ q i hq hi. kept .outside _ (beside m p hp q i 3 (firstRowOf m q + 4 * i + 3) hq hi (omega arith) (inr (omega arith)) refl) ∙ laid .below q i hq hi;
+          below = λ q i hq hi. kept .outside _ (beside m p hp q i 3 (firstRowOf m q + row·words * i + row·below) hq hi (omega arith) (inr (omega arith)) refl) ∙ laid .below q i hq hi;
           long = omega (arith, laid .long, kept .long);
         }
       where
         own : (u : ℕ) → u < m .vertices → rowIn after (itselfAt m u) ≡ rowIn mem (itselfAt m u)
         own u hu =
             let a = kept .outside (itselfAt m u) (early m p hp _ (omega (arith, itself-before m u hu))) in
-            let b = kept .outside (itselfAt m u + 1) (early m p hp _ (omega (arith, itself-before m u hu))) in
+            let b = kept .outside (itselfAt m u + row·distance) (early m p hp _ (omega (arith, itself-before m u hu))) in
             λ t. record { vertex = a t; distance = b t }
 
     pub others-kept : (isActive : ℕ → Bool) (q : ℕ) → q < partCount m → q ≢ p → RowsShow m isActive mem q → RowsShow m isActive after q
     others-kept isActive q hq other shows j hj =
-        let a : word after (firstRowOf m q + 4 * j) ≡ word mem (firstRowOf m q + 4 * j) =
-        kept .outside _ (beside m p hp q j 0 (firstRowOf m q + 4 * j) hq hj (omega arith) (inl other) (omega arith))
+        let a : word after (firstRowOf m q + row·words * j) ≡ word mem (firstRowOf m q + row·words * j) =
+        kept .outside _ (beside m p hp q j 0 (firstRowOf m q + row·words * j) hq hj (omega arith) (inl other) (omega arith))
         in
-        let b : word after (firstRowOf m q + 4 * j + 1) ≡ word mem (firstRowOf m q + 4 * j + 1) =
-        kept .outside _ (beside m p hp q j 1 (firstRowOf m q + 4 * j + 1) hq hj (omega arith) (inl other) refl)
+        let b : word after (firstRowOf m q + row·words * j + row·distance) ≡ word mem (firstRowOf m q + row·words * j + row·distance) =
+        kept .outside _ (beside m p hp q j 1 (firstRowOf m q + row·words * j + row·distance) hq hj (omega arith) (inl other) refl)
         in
         (λ t. record { vertex = a t; distance = b t }) ∙ shows j hj
 
@@ -116,7 +117,7 @@ module _ (m : Map) (net : Net m) (tree : Tree m) (p : ℕ) (hp : p < partCount m
         let place = place-in b (rowVertices m c) (boundary-row m net tree c b (found .1)) in
         later c (child .0) (omega (arith, tree .falls c (omega (arith, child .2)) (child .0), child .1)) (placeIn b (rowVertices m c)) (place .0) ∙ ap (rowOf m isActive c) (place .1)
 
-    source-shown : (mem : List ℕ) → Laid m isActive mem → LaterShow mem → (i : ℕ) → i < sizeOf m p → sourceIn mem (firstRowOf m p + 4 * i) ≡ source m isActive p (rowVertex m p i)
+    source-shown : (mem : List ℕ) → LaidForRows m isActive mem → LaterShow mem → (i : ℕ) → i < sizeOf m p → sourceIn mem (firstRowOf m p + row·words * i) ≡ source m isActive p (rowVertex m p i)
     unfolding source rowBelow rowVertices
     source-shown mem laid later i hi = ap (rowIn mem) (laid .below p i hp hi) ∙ by (isLeaf m p) (row-in i hi)
       where
@@ -128,7 +129,7 @@ module _ (m : Map) (net : Net m) (tree : Tree m) (p : ℕ) (hp : p < partCount m
         by true h = laid .own b (real i hi)
         by false h = child-row mem later b h
 
-    pub ready : (mem : List ℕ) → Laid m isActive mem → LaterShow mem
+    pub ready : (mem : List ℕ) → LaidForRows m isActive mem → LaterShow mem
         → Ready (firstRowOf m p) (sizeOf m p) (tableOf m p) (λ i. source m isActive p (rowVertex m p i)) (λ i j. dist m (rowVertex m p i) (rowVertex m p j)) mem
     ready mem laid later =
         record {
@@ -149,17 +150,17 @@ module _ (m : Map) (net : Net m) (tree : Tree m) (p : ℕ) (hp : p < partCount m
   triangle i k j hi hk hj = dist-triangle m net (rowVertex m p i) (real i hi) (rowVertex m p k) (rowVertex m p j) (real k hk)
 
   -- v became active or inactive
-  module _ (v : ℕ) (hv : v < m .vertices) (before after : ℕ → Bool) (few : Few m) (mem : List ℕ) (laid : Laid m after mem) (later : LaterShow after mem)
+  module _ (v : ℕ) (hv : v < m .vertices) (before after : ℕ → Bool) (few : Few m) (mem : List ℕ) (laid : LaidForRows m after mem) (later : LaterShow after mem)
       (shows : RowsShow m before mem p) where
     size-here : rowsIn mem p ≡ sizeOf m p
     size-here = omega (arith, laid .size p hp, few .rows p hp)
 
     -- the part's record leads to its rows and its table
-    within-memory : fits mem (word mem (partAt p + 2)) (word mem (partAt p + 3)) (rowsIn mem p) ≡ true
+    within-memory : fits mem (word mem (partAt p + part·rows)) (word mem (partAt p + part·table)) (rowsIn mem p) ≡ true
     within-memory =
         (λ t. fits mem (laid .rows p hp t) (laid .table p hp t) (size-here t))
         ∙ rw (
-          le-leb (firstRowOf m p + 4 * sizeOf m p) (length mem) (omega (arith, rows-last m p hp, laid .long)),
+          le-leb (firstRowOf m p + row·words * sizeOf m p) (length mem) (omega (arith, rows-last m p hp, laid .long)),
           le-leb (tableOf m p + sizeOf m p * sizeOf m p) (length mem) (omega (arith, table-last m p hp, laid .long)),
         )
 
@@ -181,7 +182,7 @@ module _ (m : Map) (net : Net m) (tree : Tree m) (p : ℕ) (hp : p < partCount m
 
     closed : Closed (firstRowOf m p) (sizeOf m p) (tableOf m p) (λ i. source m after p (rowVertex m p i)) (λ i j. dist m (rowVertex m p i) (rowVertex m p j)) mem
     closed i j hi hj =
-        subst⁻¹ (λ (k : Row). RowLe k (onward (rowIn mem (firstRowOf m p + 4 * i)) (dist m (rowVertex m p i) (rowVertex m p j)))) (shows j hj)
+        subst⁻¹ (λ (k : Row). RowLe k (onward (rowIn mem (firstRowOf m p + row·words * i)) (dist m (rowVertex m p i) (rowVertex m p j)))) (shows j hj)
         (subst⁻¹ (λ (k : Row). RowLe (rowOf m before p (rowVertex m p j)) (onward k (dist m (rowVertex m p i) (rowVertex m p j)))) (shows i hi)
         (row-closed m net before p (rowVertex m p i) (rowVertex m p j) (real i hi)))
 

@@ -12,6 +12,7 @@ use borrow.Author.Tests.{lt-ltb, le-ltb}
 use Rattle.words.specs.Lists.{word, placeIn}
 use Rattle.words.proofs.Tests.{true-or-false}
 use Rattle.words.proofs.Lists.{place-in}
+use Rattle.layout.specs.Layout.{partAt}
 use Rattle.roads.specs.Map.{Map, partCount}
 use Rattle.roads.proofs.Trail.{Net}
 use Rattle.parts.specs.Tree.{parentOf, leafOf, level, holds, isLeaf, verticesOf}
@@ -26,17 +27,16 @@ use Rattle.image.specs.Records.{rowVertex}
 use Rattle.row_changes.specs.Switch.{Switched}
 use Rattle.row_changes.proofs.Switch.{switch-elsewhere}
 use Rattle.row_changes.proofs.Early.{unseen-rows, above-unchanged}
-use Rattle.part_words.specs.Part.{partAt}
 use Rattle.row_refresh.specs.Model.{refreshed, touched, refreshedUp}
-use Rattle.row_memory.specs.Kept.{Outside, Kept}
-use Rattle.row_memory.specs.Laid.{Few, Laid, RowsShow}
+use Rattle.row_memory.specs.Kept.{OutsideRows, Kept}
+use Rattle.row_memory.specs.Laid.{Few, LaidForRows, RowsShow}
 use Rattle.row_memory.specs.Refreshed.{Refreshed}
 use Rattle.row_memory.proofs.Levels.{level-falls, level-some}
 use Rattle.row_memory.proofs.Genuine.{laid-kept, others-kept, row-in, untouched, arrived-here, departed-here}
 
 -- On the way up, before part p: the rows of p and of the parts above it are as they were, and all others show what they must.
 record Climbing (m : Map) (v : ℕ) (before after : ℕ → Bool) (p : ℕ) (mem : List ℕ) : Type 0 where
-  laid : Laid m after mem
+  laid : LaidForRows m after mem
   ahead : (q : ℕ) → q < partCount m → holds m q v ≡ true → q ≤ p → RowsShow m before mem q
   behind : (q : ℕ) → q < partCount m → (holds m q v ≡ false) ⊎ (p < q) → RowsShow m after mem q
 
@@ -91,7 +91,7 @@ module _ (m : Map) (net : Net m) (tree : Tree m) (few : Few m) (v : ℕ) (hv : v
         by q hq which (yes same) = subst⁻¹ (RowsShow m after now) same shown
         by q hq which (no other) = settled q hq other (past q hq other which)
 
-    frame : (a : ℕ) → ((q : ℕ) → q < partCount m → Outside (firstRowOf m q) (sizeOf m q) a) → word now a ≡ word mem a
+    frame : (a : ℕ) → ((q : ℕ) → q < partCount m → OutsideRows (firstRowOf m q) (sizeOf m q) a) → word now a ≡ word mem a
     frame a out = kept .outside a (out p hp)
 
     -- at the root
@@ -178,7 +178,7 @@ module _ (m : Map) (net : Net m) (tree : Tree m) (few : Few m) (v : ℕ) (hv : v
             parent = laid-kept m net tree p hp (done .0) (c .laid) .parent p hp
 
     -- Where the memory shows the rows before the change and all else after it, the refresh makes the rows exact.
-    pub refreshed-up : (left : ℕ) → level m (leafOf m v) ≤ left → (mem : List ℕ) → Laid m after mem → ((p : ℕ) → p < partCount m → RowsShow m before mem p)
+    pub refreshed-up : (left : ℕ) → level m (leafOf m v) ≤ left → (mem : List ℕ) → LaidForRows m after mem → ((p : ℕ) → p < partCount m → RowsShow m before mem p)
         → Refreshed m after mem (refreshedUp left mem (leafOf m v) v is)
     refreshed-up left enough mem laid shows =
         climbed left (leafOf m v) enough (tree .leaf-part v hv) (in-own-leaf m v hv) mem

@@ -12,6 +12,7 @@ use lib.ListN.{length}
 use Rattle.words.specs.Limits.{vans}
 use Rattle.words.specs.Lists.{word}
 use Rattle.words.proofs.Sums.{InRecord, in-record}
+use Rattle.layout.specs.Layout.{head·parts, part·size, part·rows, part·table, vertex·words, vertex·itself, row·words, row·vertex, row·distance, row·below, verticesFrom, partAt}
 use Rattle.roads.specs.Map.{Map, partCount}
 use Rattle.parts.specs.Tree.{leafOf}
 use Rattle.parts.specs.Size.{sizeOf, need}
@@ -29,10 +30,9 @@ use Rattle.image.proofs.Length.{image-length}
 use Rattle.image.proofs.Records.{vertices-start, roads-start, vans-start, tables-start, rows-start, rows-end, head-word, part-word, vertex-word, table-word, shown-word, Address, in-head, in-parts, in-vertices, in-roads, in-vans, in-tables, in-rows, image-by-words}
 use Rattle.row_changes.specs.Switch.{Switched}
 use Rattle.row_words.specs.Words.{rowIn, shown}
-use Rattle.part_words.specs.Part.{partAt}
 use Rattle.row_refresh.specs.Model.{refreshedUp, vertexAt, ownRow, switched}
 use Rattle.row_memory.specs.Old.{RowsOld}
-use Rattle.row_memory.specs.Laid.{Few, Laid, RowsShow}
+use Rattle.row_memory.specs.Laid.{Few, LaidForRows, RowsShow}
 use Rattle.row_memory.specs.Refreshed.{Refreshed}
 use Rattle.row_memory.proofs.Apart.{rows-first, table-before, part-before, itself-before, early, beside}
 use Rattle.row_memory.proofs.Offered.{shown-row, shown-others, shown-length}
@@ -47,8 +47,8 @@ module _ (m : Map) (s : State) (slots : length (s .vans) ≡ vans) where
   image-own : (u : ℕ) → u < m .vertices → rowIn (image m s) (itselfAt m u) ≡ itself (active m s) u
   unfolding itselfAt vertexRecord
   image-own u hu =
-      let a : word (image m s) (verticesAt m + 8 * u + 5) ≡ itself (active m s) u .vertex = vertex-word m s slots u 5 hu (omega arith) in
-      let b : word (image m s) (verticesAt m + 8 * u + 5 + 1) ≡ itself (active m s) u .distance = ap (word (image m s)) (six (verticesAt m + 8 * u)) ∙ vertex-word m s slots u 6 hu (omega arith) in
+      let a : word (image m s) (verticesAt m + vertex·words * u + vertex·itself) ≡ itself (active m s) u .vertex = vertex-word m s slots u vertex·itself hu (omega arith) in
+      let b : word (image m s) (verticesAt m + vertex·words * u + vertex·itself + 1) ≡ itself (active m s) u .distance = ap (word (image m s)) (six (verticesAt m + vertex·words * u)) ∙ vertex-word m s slots u 6 hu (omega arith) in
       λ t. record { vertex = a t; distance = b t }
     where
       six : (k : ℕ) → k + 5 + 1 ≡ k + 6
@@ -56,13 +56,13 @@ module _ (m : Map) (s : State) (slots : length (s .vans) ≡ vans) where
 
   image-rows : (p : ℕ) → p < partCount m → RowsShow m (active m s) (image m s) p
   image-rows p hp j hj =
-      let a : word (image m s) (firstRowOf m p + 4 * j) ≡ rowOf m (active m s) p (rowVertex m p j) .vertex =
-      ap (word (image m s)) (sym (add-zero (firstRowOf m p + 4 * j))) ∙ shown-word m s slots p j 0 hp hj (omega arith)
+      let a : word (image m s) (firstRowOf m p + row·words * j) ≡ rowOf m (active m s) p (rowVertex m p j) .vertex =
+      ap (word (image m s)) (sym (add-zero (firstRowOf m p + row·words * j))) ∙ shown-word m s slots p j row·vertex hp hj (omega arith)
       in
-      let b : word (image m s) (firstRowOf m p + 4 * j + 1) ≡ rowOf m (active m s) p (rowVertex m p j) .distance = shown-word m s slots p j 1 hp hj (omega arith) in
+      let b : word (image m s) (firstRowOf m p + row·words * j + row·distance) ≡ rowOf m (active m s) p (rowVertex m p j) .distance = shown-word m s slots p j row·distance hp hj (omega arith) in
       λ t. record { vertex = a t; distance = b t }
 
-  image-laid : Laid m (active m s) (image m s)
+  image-laid : LaidForRows m (active m s) (image m s)
   unfolding partRecord
   image-laid =
       record {
@@ -77,8 +77,8 @@ module _ (m : Map) (s : State) (slots : length (s .vans) ≡ vans) where
       }
 
 -- words 2 and 3 of a row are those of the map
-row-still : (m : Map) (s t : State) → length (s .vans) ≡ vans → length (t .vans) ≡ vans → (p i w : ℕ) → p < partCount m → i < sizeOf m p → w < 4 → 2 ≤ w
-    → word (image m s) (firstRowOf m p + 4 * i + w) ≡ word (image m t) (firstRowOf m p + 4 * i + w)
+row-still : (m : Map) (s t : State) → length (s .vans) ≡ vans → length (t .vans) ≡ vans → (p i w : ℕ) → p < partCount m → i < sizeOf m p → w < row·words → 2 ≤ w
+    → word (image m s) (firstRowOf m p + row·words * i + w) ≡ word (image m t) (firstRowOf m p + row·words * i + w)
 row-still m s t slots slots′ p i zero hp hi hw high = absurd (omega arith)
 row-still m s t slots slots′ p i (suc zero) hp hi hw high = absurd (omega arith)
 row-still m s t slots slots′ p i (suc (suc zero)) hp hi hw high = shown-word m s slots p i 2 hp hi (omega arith) ∙ sym (shown-word m t slots′ p i 2 hp hi (omega arith))
@@ -92,30 +92,30 @@ record Half (m : Map) (s t : State) (mem : List ℕ) : Type 0 where
   old : (a : ℕ) → rowsAt m ≤ a → word mem a ≡ word (image m s) a
 
 module _ (m : Map) (s t : State) (slots : length (s .vans) ≡ vans) (slots′ : length (t .vans) ≡ vans) (mem : List ℕ) (half : Half m s t mem) where
-  laid-new : Laid m (active m t) (image m t)
+  laid-new : LaidForRows m (active m t) (image m t)
   laid-new = image-laid m t slots′
 
-  half-laid : Laid m (active m t) mem
+  half-laid : LaidForRows m (active m t) mem
   half-laid =
       record {
         parent = λ p hp. half .new (partAt p) (omega (arith, part-before m p hp)) ∙ laid-new .parent p hp;
-        size = λ p hp. half .new (partAt p + 1) (omega (arith, part-before m p hp)) ∙ laid-new .size p hp;
-        rows = λ p hp. half .new (partAt p + 2) (omega (arith, part-before m p hp)) ∙ laid-new .rows p hp;
-        table = λ p hp. half .new (partAt p + 3) (omega (arith, part-before m p hp)) ∙ laid-new .table p hp;
+        size = λ p hp. half .new (partAt p + part·size) (omega (arith, part-before m p hp)) ∙ laid-new .size p hp;
+        rows = λ p hp. half .new (partAt p + part·rows) (omega (arith, part-before m p hp)) ∙ laid-new .rows p hp;
+        table = λ p hp. half .new (partAt p + part·table) (omega (arith, part-before m p hp)) ∙ laid-new .table p hp;
         own =
             λ u hu.
             let a : word mem (itselfAt m u) ≡ word (image m t) (itselfAt m u) = half .new (itselfAt m u) (omega (arith, itself-before m u hu)) in
-            let b : word mem (itselfAt m u + 1) ≡ word (image m t) (itselfAt m u + 1) = half .new (itselfAt m u + 1) (omega (arith, itself-before m u hu)) in
+            let b : word mem (itselfAt m u + row·distance) ≡ word (image m t) (itselfAt m u + row·distance) = half .new (itselfAt m u + row·distance) (omega (arith, itself-before m u hu)) in
             (λ i. record { vertex = a i; distance = b i }) ∙ laid-new .own u hu;
         entry = λ p i j hp hi hj. half .new (tableOf m p + (sizeOf m p * i + j)) (table-before m p hp i j hi hj) ∙ laid-new .entry p i j hp hi hj;
-        below = λ p i hp hi. half .old (firstRowOf m p + 4 * i + 3) (omega (arith, rows-first m p hp)) ∙ image-laid m s slots .below p i hp hi;
+        below = λ p i hp hi. half .old (firstRowOf m p + row·words * i + row·below) (omega (arith, rows-first m p hp)) ∙ image-laid m s slots .below p i hp hi;
         long = omega (arith, rows-end m, half .long);
       }
 
   half-rows : (p : ℕ) → p < partCount m → RowsShow m (active m s) mem p
   half-rows p hp j hj =
-      let a : word mem (firstRowOf m p + 4 * j) ≡ word (image m s) (firstRowOf m p + 4 * j) = half .old (firstRowOf m p + 4 * j) (omega (arith, rows-first m p hp)) in
-      let b : word mem (firstRowOf m p + 4 * j + 1) ≡ word (image m s) (firstRowOf m p + 4 * j + 1) = half .old (firstRowOf m p + 4 * j + 1) (omega (arith, rows-first m p hp)) in
+      let a : word mem (firstRowOf m p + row·words * j) ≡ word (image m s) (firstRowOf m p + row·words * j) = half .old (firstRowOf m p + row·words * j) (omega (arith, rows-first m p hp)) in
+      let b : word mem (firstRowOf m p + row·words * j + row·distance) ≡ word (image m s) (firstRowOf m p + row·words * j + row·distance) = half .old (firstRowOf m p + row·words * j + row·distance) (omega (arith, rows-first m p hp)) in
       (λ i. record { vertex = a i; distance = b i }) ∙ image-rows m s slots p hp j hj
 
   -- rows that show what they must for t, and all else as it was, make the image of t
@@ -125,12 +125,12 @@ module _ (m : Map) (s t : State) (slots : length (s .vans) ≡ vans) (slots′ :
       front : (a : ℕ) → a < rowsAt m → word out a ≡ word (image m t) a
       front a h = done .others a (λ p hp. early m p hp a h) ∙ half .new a h
 
-      row : (p i w : ℕ) → p < partCount m → i < sizeOf m p → w < 4 → word out (firstRowOf m p + 4 * i + w) ≡ word (image m t) (firstRowOf m p + 4 * i + w)
-      row p i zero hp hi hw = ap (word out) (add-zero (firstRowOf m p + 4 * i)) ∙ ap (λ (k : Row). k .vertex) (done .shows p hp i hi ∙ sym (image-rows m t slots′ p hp i hi)) ∙ ap (word (image m t)) (sym (add-zero (firstRowOf m p + 4 * i)))
+      row : (p i w : ℕ) → p < partCount m → i < sizeOf m p → w < row·words → word out (firstRowOf m p + row·words * i + w) ≡ word (image m t) (firstRowOf m p + row·words * i + w)
+      row p i zero hp hi hw = ap (word out) (add-zero (firstRowOf m p + row·words * i)) ∙ ap (λ (k : Row). k .vertex) (done .shows p hp i hi ∙ sym (image-rows m t slots′ p hp i hi)) ∙ ap (word (image m t)) (sym (add-zero (firstRowOf m p + row·words * i)))
       row p i (suc zero) hp hi hw = ap (λ (k : Row). k .distance) (done .shows p hp i hi ∙ sym (image-rows m t slots′ p hp i hi))
       row p i (suc (suc w)) hp hi hw =
-          done .others (firstRowOf m p + 4 * i + suc (suc w)) (λ q hq. beside m q hq p i (suc (suc w)) (firstRowOf m p + 4 * i + suc (suc w)) hp hi hw (inr (omega arith)) refl)
-          ∙ half .old (firstRowOf m p + 4 * i + suc (suc w)) (omega (arith, rows-first m p hp))
+          done .others (firstRowOf m p + row·words * i + suc (suc w)) (λ q hq. beside m q hq p i (suc (suc w)) (firstRowOf m p + row·words * i + suc (suc w)) hp hi hw (inr (omega arith)) refl)
+          ∙ half .old (firstRowOf m p + row·words * i + suc (suc w)) (omega (arith, rows-first m p hp))
           ∙ row-still m s t slots slots′ p i (suc (suc w)) hp hi hw (omega arith)
 
       by : (a : ℕ) → Address m a → word out a ≡ word (image m t) a
@@ -154,15 +154,15 @@ own-or-not : (m : Map) (a : ℕ) → OwnWord m a ⊎ ((u w : ℕ) → u < m .ver
 unfolding itselfAt
 own-or-not m a = by (decLt a (verticesAt m)) (decLt a (roadsAt m))
   where
-    by : Dec (a < verticesAt m) → Dec (a < roadsAt m) → OwnWord m a ⊎ ((u w : ℕ) → u < m .vertices → w < 2 → a ≡ verticesAt m + 8 * u + 5 + w → ⊥)
+    by : Dec (a < verticesAt m) → Dec (a < roadsAt m) → OwnWord m a ⊎ ((u w : ℕ) → u < m .vertices → w < 2 → a ≡ verticesAt m + vertex·words * u + vertex·itself + w → ⊥)
     by (yes low) r = inr (λ u w hu hw e. omega arith)
     by (no high) (no past) = inr (λ u w hu hw e. omega (arith, past, vertices-start m, roads-start m))
-    by (no high) (yes within-section) = in-section (in-record 8 (m .vertices) (a - verticesAt m) (omega (arith, high, vertices-start m, roads-start m)))
+    by (no high) (yes within-section) = in-section (in-record vertex·words (m .vertices) (a - verticesAt m) (omega (arith, high, vertices-start m, roads-start m)))
       where
-        in-section : InRecord 8 (m .vertices) (a - verticesAt m) → OwnWord m a ⊎ ((u w : ℕ) → u < m .vertices → w < 2 → a ≡ verticesAt m + 8 * u + 5 + w → ⊥)
+        in-section : InRecord vertex·words (m .vertices) (a - verticesAt m) → OwnWord m a ⊎ ((u w : ℕ) → u < m .vertices → w < 2 → a ≡ verticesAt m + vertex·words * u + vertex·itself + w → ⊥)
         in-section r = by-word (decLt (r .at) 5) (decLt (r .at) 7)
           where
-            by-word : Dec (r .at < 5) → Dec (r .at < 7) → OwnWord m a ⊎ ((u w : ℕ) → u < m .vertices → w < 2 → a ≡ verticesAt m + 8 * u + 5 + w → ⊥)
+            by-word : Dec (r .at < 5) → Dec (r .at < 7) → OwnWord m a ⊎ ((u w : ℕ) → u < m .vertices → w < 2 → a ≡ verticesAt m + vertex·words * u + vertex·itself + w → ⊥)
             by-word (yes early-word) k = inr (λ u w hu hw e. omega (arith, high, r .is-sum))
             by-word (no past) (no last) = inr (λ u w hu hw e. omega (arith, high, past, last, r .is-sum, r .is-within))
             by-word (no past) (yes own) =
@@ -211,7 +211,7 @@ module _ (m : Map) (s t : State) (slots : length (s .vans) ≡ vans) (slots′ :
       written-row =
           shown-row mem (itselfAt m v) (ownRow v is) (omega (arith, itself-before m v hv, rows-end m, old .long)) ∙ own-is ∙ sym (image-own m t slots′ v hv)
 
-      elsewhere : (a : ℕ) → (a ≡ itselfAt m v → ⊥) → (a ≡ itselfAt m v + 1 → ⊥) → a < rowsAt m → word mem a ≡ word (image m t) a
+      elsewhere : (a : ℕ) → (a ≡ itselfAt m v → ⊥) → (a ≡ itselfAt m v + row·distance → ⊥) → a < rowsAt m → word mem a ≡ word (image m t) a
       elsewhere a p q h = ⊎-elim own (λ away. old .others a h away) (own-or-not m a)
         where
           other : (o : OwnWord m a) → o .vertex ≢ v
@@ -236,25 +236,25 @@ module _ (m : Map) (s t : State) (slots : length (s .vans) ≡ vans) (slots′ :
       half-written =
           record {
             long = shown-length mem (itselfAt m v) (ownRow v is) ∙ old .long;
-            new = λ a h. by a h (ℕ-discrete a (itselfAt m v)) (ℕ-discrete a (itselfAt m v + 1));
+            new = λ a h. by a h (ℕ-discrete a (itselfAt m v)) (ℕ-discrete a (itselfAt m v + row·distance));
             old = λ a h. shown-others mem (itselfAt m v) (ownRow v is) a (λ e. omega (arith, itself-before m v hv)) (λ e. omega (arith, itself-before m v hv)) ∙ old .rows a h;
           }
         where
-          by : (a : ℕ) → a < rowsAt m → Dec (a ≡ itselfAt m v) → Dec (a ≡ itselfAt m v + 1) → word written a ≡ word (image m t) a
+          by : (a : ℕ) → a < rowsAt m → Dec (a ≡ itselfAt m v) → Dec (a ≡ itselfAt m v + row·distance) → word written a ≡ word (image m t) a
           by a h (yes e) d = ap (word written) e ∙ ap (λ (k : Row). k .vertex) written-row ∙ ap (word (image m t)) (sym e)
           by a h (no n) (yes e) = ap (word written) e ∙ ap (λ (k : Row). k .distance) written-row ∙ ap (word (image m t)) (sym e)
           by a h (no n) (no k) = shown-others mem (itselfAt m v) (ownRow v is) a n k ∙ elsewhere a n k h
 
       -- the memory leads to v's record and to its leaf
-      parts-word : word mem 4 ≡ partCount m
+      parts-word : word mem head·parts ≡ partCount m
       unfolding itselfAt headPart
       parts-word =
           old .others 4 (omega (arith, vertices-start m, roads-start m, vans-start m, tables-start m, rows-start m)) (λ u w hu hw e. omega (arith, vertices-start m)) ∙ head-word m t slots′ 4 (omega arith)
 
-      record-at : vertexAt mem v ≡ verticesAt m + 8 * v
-      record-at = ap (λ (k : ℕ). 64 + 8 * k + 8 * v) parts-word ∙ ap (λ (k : ℕ). k + 8 * v) (sym (vertices-start m))
+      record-at : vertexAt mem v ≡ verticesAt m + vertex·words * v
+      record-at = ap (λ (k : ℕ). verticesFrom k + vertex·words * v) parts-word ∙ ap (λ (k : ℕ). k + vertex·words * v) (sym (vertices-start m))
 
-      own-at : vertexAt mem v + 5 ≡ itselfAt m v
+      own-at : vertexAt mem v + vertex·itself ≡ itselfAt m v
       unfolding itselfAt
       own-at = ap (λ (k : ℕ). k + 5) record-at
 
@@ -262,8 +262,8 @@ module _ (m : Map) (s t : State) (slots : length (s .vans) ≡ vans) (slots′ :
       unfolding itselfAt vertexRecord
       leaf-word =
           ap (word mem) record-at
-          ∙ old .others (verticesAt m + 8 * v) (omega (arith, vertices-start m, roads-start m, vans-start m, tables-start m, rows-start m)) (λ u w hu hw e. omega arith)
-          ∙ ap (word (image m t)) (sym (add-zero (verticesAt m + 8 * v)))
+          ∙ old .others (verticesAt m + vertex·words * v) (omega (arith, vertices-start m, roads-start m, vans-start m, tables-start m, rows-start m)) (λ u w hu hw e. omega arith)
+          ∙ ap (word (image m t)) (sym (add-zero (verticesAt m + vertex·words * v)))
           ∙ vertex-word m t slots′ v 0 hv (omega arith)
 
       -- v alone became active or inactive: `switch` makes the image of t.

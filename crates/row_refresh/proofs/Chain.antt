@@ -14,7 +14,8 @@ use Rattle.row_words.specs.Words.{shown}
 use Rattle.row_arrivals.specs.Arrival.{arrived, anyNews, lead, led}
 use Rattle.row_refresh.specs.Model.{showing, changed, touches, refreshed, touched, refreshedUp, vertexAt, ownRow, switched, showsIn}
 use Rattle.row_departures.specs.Departure.{renewed, remade}
-use Rattle.part_words.specs.Part.{partAt, partWord, rowsIn, fits, PartRead}
+use Rattle.layout.specs.Layout.{partAt, partWord}
+use Rattle.part_words.specs.Part.{rowsIn, fits, PartRead}
 use Rattle.listing.specs.Lists.{EachBelow}
 use Rattle.listing.proofs.Turns.{kept-below}
 

@@ -3,6 +3,10 @@
 use cells::more;
 use cells::wide;
 use cells::word;
+use layout::HeadRecord;
+use layout::PartRecord;
+use layout::RowRecord;
+use layout::VertexRecord;
 use part_words::part_rows;
 use part_words::part_word;
 use row_arrivals::meet_led;
@@ -13,13 +17,14 @@ use rows::Row;
 ghost use mathlib.Core.Path.{_≡_};
 ghost use Prim.Native.Nat.{_+_, _*_, _≤_, _<_};
 ghost use lib.ListN.{length, take};
+ghost use Rattle.layout.specs.Layout.{row·words, row·below};
 ghost use Rattle.row_refresh.specs.Model.{showsIn, showing, changed, touches, refreshed, touched, refreshedUp, ownRow, switched};
 
 const MOST_LEVELS: usize = 16;
 
 // Whether a row shows v, or, with `below`, its source does.
 fn shows(mem: &[u32], row: usize, v: u32, below: bool) -> bool
-    requires { ⌜ row + 3 < length (now mem) ⌝ }
+    requires { ⌜ row + row·below < length (now mem) ⌝ }
     ensures { λ r. ⌜ r ≡ showsIn (now (mem .entry)) row v below ⌝ }
 {
     if below {
@@ -38,7 +43,7 @@ fn list_showing(
     below: bool,
     numbers: &mut [u32],
 ) -> usize
-    requires { ⌜ (rows + 4 * size ≤ length (now mem)) × (size ≤ length (now numbers)) × (size ≤ 128) ⌝ }
+    requires { ⌜ (rows + row·words * size ≤ length (now mem)) × (size ≤ length (now numbers)) × (size ≤ 128) ⌝ }
     ensures { λ r. ⌜ (r ≤ size) × (take r (now (numbers .exit)) ≡ showing (now (mem .entry)) rows size v below) ⌝ }
 {
     let mut row = rows;
@@ -48,7 +53,7 @@ fn list_showing(
     while 0 < left {
         numbers[n] = i;
         n = more(n, shows(mem, row, v, below));
-        row += 4;
+        row += RowRecord::WORDS;
         i += 1;
         left -= 1;
     }
@@ -65,7 +70,7 @@ fn change_listed(
     v: u32,
     arrives: bool,
 ) -> bool
-    requires { ⌜ (rows + 4 * size ≤ length (now mem)) × (table + size * size ≤ length (now mem)) × (size ≤ 128) × (0 < length (now numbers)) × (now numbers ≡ showing (now mem) rows size v arrives) ⌝ }
+    requires { ⌜ (rows + row·words * size ≤ length (now mem)) × (table + size * size ≤ length (now mem)) × (size ≤ 128) × (0 < length (now numbers)) × (now numbers ≡ showing (now mem) rows size v arrives) ⌝ }
     ensures { λ r. ⌜ (now (mem .exit) ≡ changed (now (mem .entry)) rows table size v arrives) × (r ≡ touches (now (mem .entry)) rows table size v arrives) ⌝ }
 {
     if arrives {
@@ -77,7 +82,7 @@ fn change_listed(
 
 // The rows of a part, after v arrived in it or departed from it. Says whether any row may have changed.
 fn change(mem: &mut [u32], rows: usize, table: usize, size: usize, v: u32, arrives: bool) -> bool
-    requires { ⌜ (rows + 4 * size ≤ length (now mem)) × (table + size * size ≤ length (now mem)) × (size ≤ 128) ⌝ }
+    requires { ⌜ (rows + row·words * size ≤ length (now mem)) × (table + size * size ≤ length (now mem)) × (size ≤ 128) ⌝ }
     ensures { λ r. ⌜ (now (mem .exit) ≡ changed (now (mem .entry)) rows table size v arrives) × (r ≡ touches (now (mem .entry)) rows table size v arrives) ⌝ }
 {
     let mut numbers = [0u32; 128];
@@ -106,7 +111,7 @@ fn refresh_up(mem: &mut [u32], p: u32, v: u32, arrives: bool, levels: usize)
 {
     if 0 < levels {
         if refresh(mem, p, v, arrives) {
-            let above = part_word(mem, wide(p), 0);
+            let above = part_word(mem, wide(p), PartRecord::PARENT);
             if above < p {
                 refresh_up(mem, above, v, arrives, levels - 1);
             }
@@ -128,8 +133,10 @@ fn own_row(v: u32, active: bool) -> Row
 pub fn switch(mem: &mut [u32], v: u32, arrives: bool)
     ensures { λ _. ⌜ now (mem .exit) ≡ switched (now (mem .entry)) v arrives ⌝ }
 {
-    let at = 64 + 8 * wide(word(mem, 4)) + 8 * wide(v);
+    let at = HeadRecord::WORDS
+        + PartRecord::WORDS * wide(word(mem, HeadRecord::PARTS))
+        + VertexRecord::WORDS * wide(v);
     let leaf = word(mem, at);
-    show(mem, at + 5, own_row(v, arrives));
+    show(mem, at + VertexRecord::ITSELF, own_row(v, arrives));
     refresh_up(mem, leaf, v, arrives, MOST_LEVELS);
 }

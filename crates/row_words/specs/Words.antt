@@ -3,19 +3,20 @@ use Prim.Native.Nat.{ℕ, _+_, _*_, _/_, _%_}
 use mathlib.Core.List.{List}
 use lib.ListN.{set}
 use Rattle.words.specs.Lists.{word}
+use Rattle.layout.specs.Layout.{row·distance, row·below}
 use Rattle.rows.specs.declared.Row.{Row}
 
 -- what the two words at an address show
 abbrev pub rowIn : List ℕ → ℕ → Row
-rowIn mem at = record { vertex = word mem at; distance = word mem (at + 1) }
+rowIn mem at = record { vertex = word mem at; distance = word mem (at + row·distance) }
 
 -- the two words at an address, made to show a row
 abbrev pub shown : List ℕ → ℕ → Row → List ℕ
-shown mem at row = set (set mem at (row .vertex)) (at + 1) (row .distance)
+shown mem at row = set (set mem at (row .vertex)) (at + row·distance) (row .distance)
 
 -- what stands one step further down from a row: the two words that its word 3 points at
 abbrev pub sourceIn : List ℕ → ℕ → Row
-sourceIn mem row = rowIn mem (word mem (row + 3))
+sourceIn mem row = rowIn mem (word mem (row + row·below))
 
 -- A row as one number: its vertex stands in the lower 32 bits, its distance above.
 abbrev pub placed : ℕ → ℕ → ℕ

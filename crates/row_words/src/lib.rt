@@ -2,10 +2,12 @@
 use cells::put;
 use cells::wide;
 use cells::word;
+use layout::RowRecord;
 use rows::Row;
 ghost use mathlib.Core.Path.{_≡_};
 ghost use Prim.Native.Nat.{_+_, _*_, _/_, _%_, _<_};
 ghost use lib.ListN.{length};
+ghost use Rattle.layout.specs.Layout.{row·below};
 ghost use Rattle.row_words.specs.Words.{rowIn, shown, sourceIn, placed, unplaced};
 
 // What the two words at an address show.
@@ -13,7 +15,7 @@ pub fn row_at(mem: &[u32], at: usize) -> Row
     requires { ⌜ at < 18446744073709551615 ⌝ }
     ensures { λ r. ⌜ r ≡ rowIn (now (mem .entry)) at ⌝ }
 {
-    Row::showing(word(mem, at), word(mem, at + 1))
+    Row::showing(word(mem, at), word(mem, at + RowRecord::DISTANCE))
 }
 
 pub fn show(mem: &mut [u32], at: usize, row: Row)
@@ -21,15 +23,15 @@ pub fn show(mem: &mut [u32], at: usize, row: Row)
     ensures { λ _. ⌜ now (mem .exit) ≡ shown (now (mem .entry)) at row ⌝ }
 {
     put(mem, at, row.vertex);
-    put(mem, at + 1, row.distance);
+    put(mem, at + RowRecord::DISTANCE, row.distance);
 }
 
 // What stands one step further down from a row: a leaf's vertex itself, and for any other part the same vertex's row in the child.
 pub fn source(mem: &[u32], row: usize) -> Row
-    requires { ⌜ row + 3 < length (now mem) ⌝ }
+    requires { ⌜ row + row·below < length (now mem) ⌝ }
     ensures { λ r. ⌜ r ≡ sourceIn (now (mem .entry)) row ⌝ }
 {
-    row_at(mem, wide(mem[row + 3]))
+    row_at(mem, wide(mem[row + RowRecord::BELOW]))
 }
 
 // A row as one number, from which it can be read back: of two rows the one that comes before has the lesser.

@@ -4,13 +4,15 @@ ghost use Prim.Native.Nat.{ℕ, _≤_, _<_};
 ghost use lib.ListN.{length};
 ghost use Rattle.roads.specs.Map.{Map, partCount};
 ghost use Rattle.parts.specs.Size.{sizeOf};
-ghost use Rattle.assembly.specs.Laid.{Laid};
+ghost use Rattle.assembly.specs.Laid.{LaidForTables};
 ghost use Rattle.assembly.specs.Steps.{AgreedPair, AgreedRow, Agreed, Lines};
 use cells::wide;
+use layout::PartRecord;
+use layout::RowRecord;
+use layout::part_word;
+use layout::row_word;
 use table_words::level;
 use table_words::line_of;
-use table_words::of_part;
-use table_words::of_row;
 use table_words::part_of;
 use table_words::place_of;
 use table_words::row_below;
@@ -26,12 +28,12 @@ fn level_pair(
     j: u32,
 )
     requires { ⌜ (line ≤ 18446744069414584320) × («line_below» ≤ 18446744069414584320) ⌝ }
-    ensures { λ r. ⌜ ((m : Map) (low p i size : ℕ) → Laid m (now (mem .entry)) → low ≤ p → p < partCount m → i < sizeOf m p → j < sizeOf m p → Lines m p i c size first line «first_below» «line_below» → AgreedPair m low p i j (now (mem .entry)) (now (mem .exit))) ⌝ }
+    ensures { λ r. ⌜ ((m : Map) (low p i size : ℕ) → LaidForTables m (now (mem .entry)) → low ≤ p → p < partCount m → i < sizeOf m p → j < sizeOf m p → Lines m p i c size first line «first_below» «line_below» → AgreedPair m low p i j (now (mem .entry)) (now (mem .exit))) ⌝ }
     ensures { λ r. ⌜ length (now (mem .exit)) ≡ length (now (mem .entry)) ⌝ }
 {
-    if part_of(of_row(mem, first, j, 2)) == c {
+    if part_of(row_word(mem, first, j, RowRecord::OWN)) == c {
         let a = line + wide(j);
-        let k = place_of(of_row(mem, first, j, 3), first_below);
+        let k = place_of(row_word(mem, first, j, RowRecord::BELOW), first_below);
         let b = line_below + wide(k);
         level(mem, a, b);
     }
@@ -47,7 +49,7 @@ fn level_row(
     line_below: usize,
 )
     requires { ⌜ (line ≤ 18446744069414584320) × («line_below» ≤ 18446744069414584320) ⌝ }
-    ensures { λ r. ⌜ ((m : Map) (low p i : ℕ) → Laid m (now (mem .entry)) → low ≤ p → p < partCount m → i < sizeOf m p → Lines m p i c size first line «first_below» «line_below» → AgreedRow m low p i (sizeOf m p) (now (mem .entry)) (now (mem .exit))) ⌝ }
+    ensures { λ r. ⌜ ((m : Map) (low p i : ℕ) → LaidForTables m (now (mem .entry)) → low ≤ p → p < partCount m → i < sizeOf m p → Lines m p i c size first line «first_below» «line_below» → AgreedRow m low p i (sizeOf m p) (now (mem .entry)) (now (mem .exit))) ⌝ }
     ensures { λ r. ⌜ length (now (mem .exit)) ≡ length (now (mem .entry)) ⌝ }
 {
     let mut j: u32 = 0;
@@ -59,12 +61,12 @@ fn level_row(
 
 // Row i of part p and the row of its vertex in the child that holds it.
 fn agree_row(mem: &mut [u32], p: u32, i: u32)
-    ensures { λ r. ⌜ ((m : Map) (low : ℕ) → Laid m (now (mem .entry)) → low ≤ p → p < partCount m → i < sizeOf m p → AgreedRow m low p i (sizeOf m p) (now (mem .entry)) (now (mem .exit))) ⌝ }
+    ensures { λ r. ⌜ ((m : Map) (low : ℕ) → LaidForTables m (now (mem .entry)) → low ≤ p → p < partCount m → i < sizeOf m p → AgreedRow m low p i (sizeOf m p) (now (mem .entry)) (now (mem .exit))) ⌝ }
     ensures { λ r. ⌜ length (now (mem .exit)) ≡ length (now (mem .entry)) ⌝ }
 {
-    let size = of_part(mem, p, 1);
-    let first = of_part(mem, p, 2);
-    let table = of_part(mem, p, 3);
+    let size = part_word(mem, p, PartRecord::SIZE);
+    let first = part_word(mem, p, PartRecord::ROWS);
+    let table = part_word(mem, p, PartRecord::TABLE);
     let b = row_below(mem, first, i);
     let c = b.part;
     if c == 0 {
@@ -77,10 +79,10 @@ fn agree_row(mem: &mut [u32], p: u32, i: u32)
 
 // The table of part p and those of its children agree at the vertices that they share.
 pub fn agree(mem: &mut [u32], p: u32)
-    ensures { λ r. ⌜ ((m : Map) (low : ℕ) → Laid m (now (mem .entry)) → low ≤ p → p < partCount m → Agreed m low p (sizeOf m p) (now (mem .entry)) (now (mem .exit))) ⌝ }
+    ensures { λ r. ⌜ ((m : Map) (low : ℕ) → LaidForTables m (now (mem .entry)) → low ≤ p → p < partCount m → Agreed m low p (sizeOf m p) (now (mem .entry)) (now (mem .exit))) ⌝ }
     ensures { λ r. ⌜ length (now (mem .exit)) ≡ length (now (mem .entry)) ⌝ }
 {
-    let size = of_part(mem, p, 1);
+    let size = part_word(mem, p, PartRecord::SIZE);
     let mut i: u32 = 0;
     while i < size {
         agree_row(mem, p, i);

@@ -12,6 +12,7 @@ use borrow.Rule.Slice.PartMut.{putMid, take-put, drop-put, same-len-mid}
 use borrow.Author.Tests.{eq-eqb, ne-eqb}
 use lib.ListN.{length, getD, set, take, drop, length-take, length-drop, length-set, List·getD-append}
 use lib.Seq.{getD-take, getD-drop, getD-append-add, length-take-le, getD-set-same, getD-set-other}
+use Rattle.words.specs.Limits.{mostBorders, FAR}
 use Rattle.table_rows.specs.Flat.{entry, through, blank, Holds, RowIs, Begins, StartsWith, Becomes, Tried, Blanked}
 
 -- ---- a part of a list put back
@@ -188,7 +189,7 @@ module _ {n k : ℕ} (words : List ℕ) (hk : k < n) (fits : n * n ≤ length wo
 
 module _ {n : ℕ} {start words : List ℕ} {i at : ℕ} (s : Filling n n blank start words i at) where
   -- 0 is written on the diagonal, where FAR stands everywhere at the start
-  pub blanked-row : i < n → {before : List ℕ} → Begins (length before) (λ j. 4294967295) before start → Filling n n blank start (set words (at + i) 0) (i + 1) (at + n)
+  pub blanked-row : i < n → {before : List ℕ} → Begins (length before) (λ j. FAR) before start → Filling n n blank start (set words (at + i) 0) (i + 1) (at + n)
   unfolding blank
   blanked-row h far =
       filling-one s h i h (rw (eq-eqb i i refl))
@@ -237,7 +238,7 @@ through-same n k S T hk same i j hi hj = rw (same i j hi hj, same i k hi hk, sam
 
 -- ---- what is left in the memory
 
-pub square-few : {n : ℕ} → n ≤ 128 → n * n ≤ 16384
+pub square-few : {n : ℕ} → n ≤ mostBorders → n * n ≤ 16384
 square-few {n} h = omega (arith, mul-le-mul-left n h)
 
 module _ (mem : List ℕ) (at n : ℕ) (fits : at + n * n ≤ length mem) (new : List ℕ)

@@ -6,6 +6,7 @@ use mathlib.Core.List.{List}
 use Prim.Native.Nat.{ℕ, _+_, _*_, _≤_, _<_, min}
 use lib.ListN.{length, getD}
 use lib.Dec.{eqb}
+use Rattle.words.specs.Limits.{mostBorders, FAR}
 
 -- the word in row i and column j of rows of n words
 abbrev pub entry : ℕ → List ℕ → ℕ → ℕ → ℕ
@@ -17,7 +18,7 @@ through k T a b = min (T a b) (T a k + T k b)
 
 -- 0 from a node to itself, and no way to another
 unfoldable pub blank : ℕ → ℕ → ℕ
-blank a b = cond (eqb a b) 0 4294967295
+blank a b = cond (eqb a b) 0 FAR
 
 -- the words start with those of `T`, in `count` rows of n words
 pub record Holds (count n : ℕ) (words : List ℕ) (T : ℕ → ℕ → ℕ) : Type 0 where
@@ -48,9 +49,9 @@ pub record Becomes (at n : ℕ) (T : (ℕ → ℕ → ℕ) → ℕ → ℕ → �
 -- Node k of the table at `at` has been tried, where there is such a table in the memory.
 pub record Tried (at n k : ℕ) (before after : List ℕ) : Type 0 where
   pub sized : length after ≡ length before
-  pub tried : n ≤ 128 → k < n → at + n * n ≤ length before → Becomes at n (through k) before after
+  pub tried : n ≤ mostBorders → k < n → at + n * n ≤ length before → Becomes at n (through k) before after
 
 -- The table at `at` has been blanked, where there is such a table in the memory.
 pub record Blanked (at n : ℕ) (before after : List ℕ) : Type 0 where
   pub sized : length after ≡ length before
-  pub blanked : n ≤ 128 → at + n * n ≤ length before → Becomes at n (λ T. blank) before after
+  pub blanked : n ≤ mostBorders → at + n * n ≤ length before → Becomes at n (λ T. blank) before after

@@ -3,6 +3,7 @@
 ghost use mathlib.Core.Path.{_≡_};
 ghost use Prim.Native.Nat.{_+_, _*_, _≤_, _<_, min};
 ghost use lib.ListN.{length, getD};
+ghost use Rattle.words.specs.Limits.{mostBorders, FAR};
 ghost use Rattle.table_rows.specs.Flat.{entry, through, blank, Holds, StartsWith, Begins, Tried, Blanked};
 use cells::wide;
 
@@ -65,7 +66,7 @@ fn try_node(table: &mut [u32], n: usize, k: usize, row: &[u32])
 
 // Node k is tried. A row cannot be lent while another is written, so that of k is copied first.
 fn try_table(table: &mut [u32], n: usize, k: usize)
-    requires { ⌜ (k < n) × (n ≤ 128) × (n * n ≤ length (now table)) ⌝ }
+    requires { ⌜ (k < n) × (n ≤ mostBorders) × (n * n ≤ length (now table)) ⌝ }
     ensures { λ r. ⌜ Holds n n (now (table .exit)) (through k (entry n (now (table .entry)))) ⌝ }
 {
     let mut row = [0u32; 128];
@@ -76,7 +77,7 @@ fn try_table(table: &mut [u32], n: usize, k: usize)
 }
 
 fn fill_far(row: &mut [u32])
-    ensures { λ r. ⌜ Begins (length (now (row .entry))) (λ j. 4294967295) (now (row .entry)) (now (row .exit)) ⌝ }
+    ensures { λ r. ⌜ Begins (length (now (row .entry))) (λ j. FAR) (now (row .entry)) (now (row .exit)) ⌝ }
 {
     let n = row.len();
     let mut i = 0;
@@ -88,7 +89,7 @@ fn fill_far(row: &mut [u32])
 
 // FAR everywhere, and 0 from each node to itself.
 fn blank_table(table: &mut [u32], n: usize)
-    requires { ⌜ (n ≤ 128) × (n * n ≤ length (now table)) ⌝ }
+    requires { ⌜ (n ≤ mostBorders) × (n * n ≤ length (now table)) ⌝ }
     ensures { λ r. ⌜ Holds n n (now (table .exit)) blank ⌝ }
 {
     fill_far(table);

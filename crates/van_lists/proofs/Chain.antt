@@ -5,10 +5,10 @@ use Prim.Native.Nat.{ℕ}
 use borrow.Author.Tests.{eq-eqb, ne-eqb}
 use Rattle.fleet.specs.State.{absent}
 use Rattle.van_lists.specs.declared.VanWords.{VanWords}
-use Rattle.van_lists.specs.Slot.{wordsOf, stamped}
+use Rattle.van_lists.specs.Slot.{standingWords, stamped}
 
 module _ (words : VanWords) (stamp : ℕ) where
-  pub stamped-none : words .state ≡ 0 → wordsOf absent ≡ stamped words stamp
+  pub stamped-none : words .state ≡ 0 → standingWords absent ≡ stamped words stamp
   stamped-none none = rw (eq-eqb (words .state) 0 none)
 
   pub stamped-there : (words .state ≡ 0 → ⊥) → _≡_ {A = VanWords} (record { state = words .state; road = words .road; offset = words .offset; stamp = stamp }) (stamped words stamp)

@@ -14,12 +14,13 @@ use borrow.Author.Tests.{eq-eqb, ne-eqb}
 use Rattle.words.specs.Limits.{vans}
 use Rattle.words.specs.Lists.{word}
 use Rattle.words.proofs.Tests.{clash}
+use Rattle.layout.specs.Layout.{vertex·vans, van·words, van·next}
 use Rattle.roads.specs.Map.{Map}
 use Rattle.counts.specs.declared.Counts.{Counts}
-use Rattle.places.specs.Place.{vertexAt, vanAt}
+use Rattle.places.specs.Place.{vertexAddress, vanAddress}
 use Rattle.fleet.specs.State.{Slot, absent, present, State, slotOf, headOf, headsFor}
-use Rattle.van_lists.specs.Slot.{wordsOf}
-use Rattle.van_lists.specs.Walk.{behind, written, relinked, takenOut, putIn}
+use Rattle.van_lists.specs.Slot.{standingWords}
+use Rattle.van_lists.specs.Walk.{behind, vanWritten, relinked, takenOut, putIn}
 use Rattle.van_lists.proofs.Links.{withSlot, headsAt, linkFrom, heading, heads-there, heads-away, heads-held, heads-absent, recordOf, linkOf, slotWords}
 use Rattle.van_lists.proofs.Parked.{Parked, field, OnlyVans}
 use Rattle.van_lists.proofs.Spot.{LinkAt, vertex-link, van-link, Spot, link-reads, behind-spot}
@@ -46,23 +47,23 @@ one-head m v p slot there away =
 module _ (m : Map) (counts : Counts) (s : State) (slots : length (s .vans) ≡ vans) (mem : List ℕ) (g : Parked m counts s mem) (n : ℕ) (is-van : n < vans) (new : Slot) where
   -- the record of the van as it stands, with its link
   record-new : (link : ℕ) → link ≡ linkOf m (withSlot s n new) n new
-      → recordOf (wordsOf new .state) (wordsOf new .road) (wordsOf new .offset) (wordsOf new .stamp) link ≡ slotWords m (withSlot s n new) n (slotOf (withSlot s n new) n)
+      → recordOf (standingWords new .state) (standingWords new .road) (standingWords new .offset) (standingWords new .stamp) link ≡ slotWords m (withSlot s n new) n (slotOf (withSlot s n new) n)
   record-new link e =
-      ap (recordOf (wordsOf new .state) (wordsOf new .road) (wordsOf new .offset) (wordsOf new .stamp)) e
+      ap (recordOf (standingWords new .state) (standingWords new .road) (standingWords new .offset) (standingWords new .stamp)) e
       ∙ sym (record-of-slot m (withSlot s n new) n new)
       ∙ ap (slotWords m (withSlot s n new) n) (sym (slot-new m s slots n is-van new))
 
-  written-only : (before : List ℕ) → OnlyVans counts mem before → OnlyVans counts mem (written before counts n (wordsOf new))
+  written-only : (before : List ℕ) → OnlyVans counts mem before → OnlyVans counts mem (vanWritten before counts n (standingWords new))
   written-only before only =
       record {
         long = rw (length-set, length-set, length-set, length-set) (only .long);
-        other = λ a no-first no-van. written-word m counts n before (wordsOf new) a (λ k small e. no-van n k is-van (omega arith) e) ∙ only .other a no-first no-van;
+        other = λ a no-first no-van. written-word m counts n before (standingWords new) a (λ k small e. no-van n k is-van (omega arith) e) ∙ only .other a no-first no-van;
       }
 
   -- written anew in its place: it heads where it did
   module _ (same : (v : ℕ) → headsFor m v new ≡ headsAt m s v n) where
-    pub parked-kept : Parked m counts (withSlot s n new) (written mem counts n (wordsOf new))
-    parked-kept = complete m counts n mem (wordsOf new) (withSlot s n new) _ (but-same m counts s slots mem g n is-van new same) is-van (record-new _ link-same)
+    pub parked-kept : Parked m counts (withSlot s n new) (vanWritten mem counts n (standingWords new))
+    parked-kept = complete m counts n mem (standingWords new) (withSlot s n new) _ (but-same m counts s slots mem g n is-van new same) is-van (record-new _ link-same)
       where
         link-same : linkOf m s n (slotOf s n) ≡ linkOf m (withSlot s n new) n new
         link-same = cases new refl
@@ -82,7 +83,7 @@ module _ (m : Map) (counts : Counts) (s : State) (slots : length (s .vans) ≡ v
                   | no held ↦ nowhere (present v) is (λ u. heads-held m u v held)
                 ]
 
-  pub kept-only : OnlyVans counts mem (written mem counts n (wordsOf new))
+  pub kept-only : OnlyVans counts mem (vanWritten mem counts n (standingWords new))
   kept-only = written-only mem (record { long = refl; other = λ a no-first no-van. refl })
 
   -- a list's link and the van's own are among the words of lists and vans
@@ -91,12 +92,12 @@ module _ (m : Map) (counts : Counts) (s : State) (slots : length (s .vans) ≡ v
       record {
         long = rw (length-set, length-set) refl;
         other = λ i no-first no-van.
-            getD-set-other (set mem at r) (vanAt counts n + 4) i link 0 (λ e. no-van n 4 is-van (omega arith) e)
+            getD-set-other (set mem at r) (vanAddress counts n + van·next) i link 0 (λ e. no-van n 4 is-van (omega arith) e)
             ∙ getD-set-other mem at i r 0 (away spot i no-first no-van);
       }
     where
-      away : LinkAt m counts s p a at → (i : ℕ) → ((v : ℕ) → v < counts .vertices → i ≡ vertexAt counts v + 4 → ⊥)
-          → ((x f : ℕ) → x < vans → f < 8 → i ≡ vanAt counts x + f → ⊥) → i ≡ at → ⊥
+      away : LinkAt m counts s p a at → (i : ℕ) → ((v : ℕ) → v < counts .vertices → i ≡ vertexAddress counts v + vertex·vans → ⊥)
+          → ((x f : ℕ) → x < vans → f < van·words → i ≡ vanAddress counts x + f → ⊥) → i ≡ at → ⊥
       away (vertex-link start e) i no-first no-van same = no-first p is-vertex (same ∙ e)
       away (van-link q after q-van q-heads e) i no-first no-van same = no-van q 4 q-van (omega arith) (same ∙ e)
 
@@ -105,29 +106,29 @@ module _ (m : Map) (counts : Counts) (s : State) (slots : length (s .vans) ≡ v
     spot = behind-spot m counts s slots mem g p is-vertex n (omega arith)
 
     -- a free van for p becomes one that heads nowhere
-    pub parked-out : headsAt m s p n ≡ true → ((v : ℕ) → headsFor m v new ≡ false) → Parked m counts (withSlot s n new) (takenOut mem counts n p (wordsOf new))
+    pub parked-out : headsAt m s p n ≡ true → ((v : ℕ) → headsFor m v new ≡ false) → Parked m counts (withSlot s n new) (takenOut mem counts n p (standingWords new))
     unfolding takenOut
     parked-out was away =
-        complete m counts n _ (wordsOf new) (withSlot s n new) 0
+        complete m counts n _ (standingWords new) (withSlot s n new) 0
         (but-link m counts (withSlot s n new) n _ 0 _
-        (but-linked m counts s slots mem g n is-van new p (behind mem counts p n) (word mem (vanAt counts n + 4)) is-vertex spot (next ∙ sym (link-without m s slots n is-van new counts p _ spot (away p))) elsewhere))
+        (but-linked m counts s slots mem g n is-van new p (behind mem counts p n) (word mem (vanAddress counts n + van·next)) is-vertex spot (next ∙ sym (link-without m s slots n is-van new counts p _ spot (away p))) elsewhere))
         is-van (record-new 0 (sym (no-link m (withSlot s n new) n new away)))
       where
-        next : word mem (vanAt counts n + 4) ≡ linkFrom m s p (suc n)
-        next = field mem (vanAt counts n) 8 _ 4 (omega arith) (g .van n is-van ∙ record-of-slot m s n (slotOf s n)) ∙ next-link m s n p (slotOf s n) was
+        next : word mem (vanAddress counts n + van·next) ≡ linkFrom m s p (suc n)
+        next = field mem (vanAddress counts n) van·words _ 4 (omega arith) (g .van n is-van ∙ record-of-slot m s n (slotOf s n)) ∙ next-link m s n p (slotOf s n) was
 
         elsewhere : (v : ℕ) → (v ≡ p → ⊥) → headsFor m v new ≡ headsAt m s v n
         elsewhere v other = away v ∙ sym (one-head m v p (slotOf s n) was other)
 
-    pub out-only : OnlyVans counts mem (takenOut mem counts n p (wordsOf new))
+    pub out-only : OnlyVans counts mem (takenOut mem counts n p (standingWords new))
     unfolding takenOut
     out-only = written-only _ (relinked-only p (behind mem counts p n) _ 0 is-vertex (spot .from) (spot .link))
 
     -- a van that heads nowhere becomes a free van for p
-    pub parked-in : ((v : ℕ) → headsAt m s v n ≡ false) → headsFor m p new ≡ true → Parked m counts (withSlot s n new) (putIn mem counts n p (wordsOf new))
+    pub parked-in : ((v : ℕ) → headsAt m s v n ≡ false) → headsFor m p new ≡ true → Parked m counts (withSlot s n new) (putIn mem counts n p (standingWords new))
     unfolding putIn
     parked-in was there =
-        complete m counts n _ (wordsOf new) (withSlot s n new) _
+        complete m counts n _ (standingWords new) (withSlot s n new) _
         (but-link m counts (withSlot s n new) n _ _ _
         (but-linked m counts s slots mem g n is-van new p (behind mem counts p n) (n + 1) is-vertex spot (add-one n ∙ sym (link-with m s slots n is-van new counts p _ spot there)) elsewhere))
         is-van (record-new _ next)
@@ -142,6 +143,6 @@ module _ (m : Map) (counts : Counts) (s : State) (slots : length (s .vans) ≡ v
             ∙ sym (link-later m s slots n is-van new p (suc n) (omega arith) (omega arith))
             ∙ sym (next-link m (withSlot s n new) n p new there)
 
-    pub in-only : OnlyVans counts mem (putIn mem counts n p (wordsOf new))
+    pub in-only : OnlyVans counts mem (putIn mem counts n p (standingWords new))
     unfolding putIn
     in-only = written-only _ (relinked-only p (behind mem counts p n) (n + 1) _ is-vertex (spot .from) (spot .link))

@@ -10,9 +10,10 @@ use lib.ListN.{length}
 use borrow.Author.Tests.{eq-eqb}
 use Rattle.words.specs.Limits.{vans}
 use Rattle.words.specs.Lists.{word}
+use Rattle.layout.specs.Layout.{vertex·vans, van·words, van·next}
 use Rattle.roads.specs.Map.{Map}
 use Rattle.counts.specs.declared.Counts.{Counts}
-use Rattle.places.specs.Place.{vertexAt, vanAt}
+use Rattle.places.specs.Place.{vertexAddress, vanAddress}
 use Rattle.fleet.specs.State.{State, slotOf}
 use Rattle.van_lists.specs.Walk.{walk, behind}
 use Rattle.van_lists.proofs.Found.{Found, nothing, found}
@@ -22,8 +23,8 @@ use Rattle.van_lists.proofs.Walk.{walk-end, walk-past, walk-on, walk-do
 
 -- `at` is the address of the link that goes on to the free vans for `p` from number `a` on
 pub data LinkAt (m : Map) (counts : Counts) (s : State) (p a at : ℕ) : Type 0 where
-  vertex-link : a ≡ 0 → at ≡ vertexAt counts p + 4 → LinkAt m counts s p a at
-  van-link : (q : ℕ) → a ≡ suc q → q < vans → headsAt m s p q ≡ true → at ≡ vanAt counts q + 4 → LinkAt m counts s p a at
+  vertex-link : a ≡ 0 → at ≡ vertexAddress counts p + vertex·vans → LinkAt m counts s p a at
+  van-link : (q : ℕ) → a ≡ suc q → q < vans → headsAt m s p q ≡ true → at ≡ vanAddress counts q + van·next → LinkAt m counts s p a at
 
 -- .. and no free van for `p` stands between it and `n`
 pub record Spot (m : Map) (counts : Counts) (s : State) (p n at : ℕ) : Type 0 where
@@ -38,7 +39,7 @@ module _ (m : Map) (counts : Counts) (s : State) (slots : length (s .vans) ≡ v
   link-reads a at (van-link q after q-van q-heads e) =
       let h = heading m p (slotOf s q) q-heads in
       ap (word mem) e
-      ∙ field mem (vanAt counts q) 8 (slotWords m s q (slotOf s q)) 4 (omega arith) (g .van q q-van)
+      ∙ field mem (vanAddress counts q) van·words (slotWords m s q (slotOf s q)) 4 (omega arith) (g .van q q-van)
       ∙ ap (λ slot. word (slotWords m s q slot) 4) (h .is)
       ∙ rw (eq-eqb (h .van .holder) 0 (h .free), h .there)
       (ap (linkFrom m s p) (sym after))
@@ -58,14 +59,14 @@ module _ (m : Map) (counts : Counts) (s : State) (slots : length (s .vans) ≡ v
               (record { from = a; within = within; link = link; none = λ y h l. before y h (omega arith) })
           | no on ↦
               rw (walk-on mem counts n at (suc left) (omega arith) (omega (arith, reads)) (omega (arith, reads)))
-              (rw less (rest (suc x) (vanAt counts (word mem at - 1) + 4) (van-link x refl to passes next) (omega arith) (omega arith)))
+              (rw less (rest (suc x) (vanAddress counts (word mem at - 1) + van·next) (van-link x refl to passes next) (omega arith) (omega arith)))
         ]
       where
         reads : word mem at ≡ suc x
         reads = link-reads a at link ∙ e
 
-        next : vanAt counts (word mem at - 1) + 4 ≡ vanAt counts x + 4
-        next = ap (λ (k : ℕ). vanAt counts (k - 1) + 4) reads ∙ omega arith
+        next : vanAddress counts (word mem at - 1) + van·next ≡ vanAddress counts x + van·next
+        next = ap (λ (k : ℕ). vanAddress counts (k - 1) + van·next) reads ∙ omega arith
 
         less : suc left - 1 ≡ left
         less = omega arith
@@ -76,4 +77,4 @@ module _ (m : Map) (counts : Counts) (s : State) (slots : length (s .vans) ≡ v
     walk-spot (suc left) a at link within far = walk-turn left a at link within far (link-found m s slots p a (omega arith)) (walk-spot left)
 
     pub behind-spot : Spot m counts s p n (behind mem counts p n)
-    behind-spot = walk-spot n 0 (vertexAt counts p + 4) (vertex-link refl refl) (omega arith) (omega arith)
+    behind-spot = walk-spot n 0 (vertexAddress counts p + vertex·vans) (vertex-link refl refl) (omega arith) (omega arith)

@@ -6,8 +6,9 @@ use Prim.Native.Nat.{ℕ, zero, suc, _+_, _-_, _≤_, _<_}
 use native.Mathlib.Omega.{arith}
 use borrow.Author.Tests.{eq-eqb, ne-eqb, lt-ltb, le-ltb}
 use Rattle.words.specs.Lists.{word}
+use Rattle.layout.specs.Layout.{van·next}
 use Rattle.counts.specs.declared.Counts.{Counts}
-use Rattle.places.specs.Place.{vanAt}
+use Rattle.places.specs.Place.{vanAddress}
 use Rattle.van_lists.specs.Walk.{walk}
 
 module _ (mem : List ℕ) (counts : Counts) (van at : ℕ) where
@@ -27,7 +28,7 @@ module _ (mem : List ℕ) (counts : Counts) (van at : ℕ) where
   walk-done (suc left) h = absurd (omega arith)
 
   pub walk-on : (left : ℕ) → 0 < left → (word mem at ≡ 0 → ⊥) → word mem at ≤ van
-      → walk mem counts van at left ≡ walk mem counts van (vanAt counts (word mem at - 1) + 4) (left - 1)
+      → walk mem counts van at left ≡ walk mem counts van (vanAddress counts (word mem at - 1) + van·next) (left - 1)
   unfolding walk
   walk-on zero some link within = absurd (omega arith)
   walk-on (suc left) some link within =

@@ -4,12 +4,15 @@
 use cells::put;
 use cells::word;
 use counts::Counts;
+use layout::VanRecord;
+use layout::VertexRecord;
 use places::van_at;
 use places::vertex_at;
 ghost use mathlib.Core.Path.{_≡_};
 ghost use Prim.Native.Nat.{_<_};
+ghost use Rattle.words.specs.Limits.{vans};
 ghost use Rattle.van_lists.specs.Slot.{stamped};
-ghost use Rattle.van_lists.specs.Walk.{vanIn, behind, written, relinked, takenOut, putIn};
+ghost use Rattle.van_lists.specs.Walk.{vanIn, behind, vanWritten, relinked, takenOut, putIn};
 
 // The first four words of a van's record.
 pub struct VanWords {
@@ -22,7 +25,7 @@ pub struct VanWords {
 
 impl VanWords {
     // Van numbers are below this.
-    pub const VANS: u32 = 1024;
+    pub const VANS: u32 = VanRecord::VANS;
 
     pub const MOST_DESK: u32 = 255;
 
@@ -60,9 +63,9 @@ pub fn van_in(mem: &[u32], counts: Counts, van: u32) -> VanWords
     let at = van_at(counts, van);
     VanWords {
         state: word(mem, at),
-        road: word(mem, at + 1),
-        offset: word(mem, at + 2),
-        stamp: word(mem, at + 3),
+        road: word(mem, at + VanRecord::ROAD),
+        offset: word(mem, at + VanRecord::OFFSET),
+        stamp: word(mem, at + VanRecord::STAMP),
     }
 }
 
@@ -70,7 +73,7 @@ pub fn van_in(mem: &[u32], counts: Counts, van: u32) -> VanWords
 fn behind(mem: &[u32], counts: Counts, vertex: u32, van: u32) -> usize
     ensures { λ r. ⌜ r ≡ behind (now (mem .entry)) counts vertex van ⌝ }
 {
-    let mut at = vertex_at(counts, vertex) + 4;
+    let mut at = vertex_at(counts, vertex) + VertexRecord::VANS;
     let mut left = van;
     while 0 < left {
         let link = word(mem, at);
@@ -80,7 +83,7 @@ fn behind(mem: &[u32], counts: Counts, vertex: u32, van: u32) -> usize
         if van < link {
             return at;
         }
-        at = van_at(counts, link - 1) + 4;
+        at = van_at(counts, link - 1) + VanRecord::NEXT;
         left -= 1;
     }
     at
@@ -88,13 +91,13 @@ fn behind(mem: &[u32], counts: Counts, vertex: u32, van: u32) -> usize
 
 // The van's record is written anew, but for its link.
 pub fn write_van(mem: &mut [u32], counts: Counts, van: u32, words: VanWords)
-    ensures { λ _. ⌜ now (mem .exit) ≡ written (now (mem .entry)) counts van words ⌝ }
+    ensures { λ _. ⌜ now (mem .exit) ≡ vanWritten (now (mem .entry)) counts van words ⌝ }
 {
     let at = van_at(counts, van);
     put(mem, at, words.state);
-    put(mem, at + 1, words.road);
-    put(mem, at + 2, words.offset);
-    put(mem, at + 3, words.stamp);
+    put(mem, at + VanRecord::ROAD, words.road);
+    put(mem, at + VanRecord::OFFSET, words.offset);
+    put(mem, at + VanRecord::STAMP, words.stamp);
 }
 
 // The link at `before` goes on to `next` and the van's own to `link`, and the van stands as `words` say.
@@ -107,10 +110,10 @@ fn write_links(
     link: u32,
     words: VanWords,
 )
-    ensures { λ _. ⌜ now (mem .exit) ≡ written (relinked (now (mem .entry)) counts van before next link) counts van words ⌝ }
+    ensures { λ _. ⌜ now (mem .exit) ≡ vanWritten (relinked (now (mem .entry)) counts van before next link) counts van words ⌝ }
 {
     put(mem, before, next);
-    put(mem, van_at(counts, van) + 4, link);
+    put(mem, van_at(counts, van) + VanRecord::NEXT, link);
     write_van(mem, counts, van, words);
 }
 
@@ -119,13 +122,13 @@ pub fn take_out(mem: &mut [u32], counts: Counts, van: u32, vertex: u32, words: V
     ensures { λ _. ⌜ now (mem .exit) ≡ takenOut (now (mem .entry)) counts van vertex words ⌝ }
 {
     let before = behind(mem, counts, vertex, van);
-    let next = word(mem, van_at(counts, van) + 4);
+    let next = word(mem, van_at(counts, van) + VanRecord::NEXT);
     write_links(mem, counts, van, before, next, 0, words);
 }
 
 // A van that is not free enters the list of a vertex, and stands as `words` say.
 pub fn put_in(mem: &mut [u32], counts: Counts, van: u32, vertex: u32, words: VanWords)
-    requires { ⌜ van < 1024 ⌝ }
+    requires { ⌜ van < vans ⌝ }
     ensures { λ _. ⌜ now (mem .exit) ≡ putIn (now (mem .entry)) counts van vertex words ⌝ }
 {
     let before = behind(mem, counts, vertex, van);

@@ -26,7 +26,7 @@ use Rattle.fleet.proofs.Sorted.{Distinct, none, more}
 use Rattle.fleet.proofs.Coming.{entry}
 use Rattle.image.specs.Image.{vertexRecord, vanRecord, nextVan}
 use Rattle.image.specs.Records.{vanWords}
-use Rattle.places.specs.Place.{countsIn, vertexAt, vanAt}
+use Rattle.places.specs.Place.{countsIn, vertexAddress, vanAddress}
 use Rattle.best_list.specs.Best.{listed}
 use Rattle.van_offers.specs.Offers.{stampIn, vanOffers}
 use Rattle.van_offers.specs.Genuine.{Genuine}
@@ -56,13 +56,13 @@ module _ {m : Map} {s : State} {mem : List ℕ} (g : Genuine m s mem) where
     unfolding vanWords
     record-is = ap (λ (slot : Slot). vanRecord slot (nextVan m slot (suc i) (drop (suc i) (s .vans)))) there
 
-    offset-read : word mem (vanAt (countsIn mem) i + 2) ≡ van .offset
+    offset-read : word mem (vanAddress (countsIn mem) i + 2) ≡ van .offset
     offset-read = van-read g i 2 hi (omega arith) ∙ ap (λ (l : List ℕ). word l 2) record-is
 
-    pub stamp-read : word mem (vanAt (countsIn mem) i + 3) ≡ van .stamp
+    pub stamp-read : word mem (vanAddress (countsIn mem) i + 3) ≡ van .stamp
     stamp-read = van-read g i 3 hi (omega arith) ∙ ap (λ (l : List ℕ). word l 3) record-is
 
-    next-read : word mem (vanAt (countsIn mem) i + 4) ≡ link (headsFor m (headOf m van)) (suc i) (drop (suc i) (s .vans))
+    next-read : word mem (vanAddress (countsIn mem) i + 4) ≡ link (headsFor m (headOf m van)) (suc i) (drop (suc i) (s .vans))
     unfolding nextVan
     next-read =
         van-read g i 4 hi (omega arith)
@@ -96,7 +96,7 @@ module _ {m : Map} {s : State} {mem : List ℕ} (g : Genuine m s mem) where
       (ap (headsFor m (headOf m van)) there ∙ heads-if m van free)
 
   -- nobody heads for a vertex that is not active
-  pub idle-link : (v : ℕ) → v < m .vertices → active m s v ≡ false → word mem (vertexAt (countsIn mem) v + 4) ≡ 0
+  pub idle-link : (v : ℕ) → v < m .vertices → active m s v ≡ false → word mem (vertexAddress (countsIn mem) v + 4) ≡ 0
   unfolding active vertexRecord
   idle-link v hv idle = vertex-read g v 4 hv (omega arith) ∙ no-link-in (headsFor m v) 0 (s .vans) idle
 
@@ -121,7 +121,7 @@ module _ {m : Map} {s : State} {mem : List ℕ} (g : Genuine m s mem) where
   module _ (x v near : ℕ) (reaches : near < FAR) (is-near : near ≡ dist m v x) where
     -- the entry that slot i gives
     given : ℕ → Listed
-    given i = listed (stampIn mem (countsIn mem)) (min (near + word mem (vanAt (countsIn mem) i + 2)) FAR) i
+    given i = listed (stampIn mem (countsIn mem)) (min (near + word mem (vanAddress (countsIn mem) i + 2)) FAR) i
 
     given-is : (i : ℕ) (van : Van) → slotOf s i ≡ present van → van .holder ≡ 0 → headOf m van ≡ v → given i ≡ entry m x i van
     unfolding given distanceOf
@@ -130,7 +130,7 @@ module _ {m : Map} {s : State} {mem : List ℕ} (g : Genuine m s mem) where
         close : distanceOf m van x < FAR
         close = comes-near x i van there (omega (arith, ap (λ (k : ℕ). dist m k x) heads, is-near))
 
-        far : min (near + word mem (vanAt (countsIn mem) i + 2)) FAR ≡ distanceOf m van x
+        far : min (near + word mem (vanAddress (countsIn mem) i + 2)) FAR ≡ distanceOf m van x
         far = omega (arith, close, offset-read i (van-below i van there) van there free, is-near, ap (λ (k : ℕ). dist m k x) heads)
 
     -- the entries of r slots from slot i on
@@ -230,23 +230,23 @@ module _ {m : Map} {s : State} {mem : List ℕ} (g : Genuine m s mem) where
 
     -- what the vertex's link offers
     offers : List Listed
-    offers = vanOffers mem (countsIn mem) near 1024 (word mem (vertexAt (countsIn mem) v + 4))
+    offers = vanOffers mem (countsIn mem) near 1024 (word mem (vertexAddress (countsIn mem) v + 4))
 
     offers-are : v < m .vertices → offers ≡ heading 1024 0
     unfolding offers chain vertexRecord
     offers-are hv = ap (vanOffers mem (countsIn mem) near 1024) (vertex-read g v 4 hv (omega arith)) ∙ chain-heading 1024 1024 0 refl (omega arith)
 
     module _ (hv : v < m .vertices) where
-      pub offers-say : (e : Listed) → List·Memᴰ e (vanOffers mem (countsIn mem) near 1024 (word mem (vertexAt (countsIn mem) v + 4))) → (c : Comer x e) × (headOf m (c .van) ≡ v)
+      pub offers-say : (e : Listed) → List·Memᴰ e (vanOffers mem (countsIn mem) near 1024 (word mem (vertexAddress (countsIn mem) v + 4))) → (c : Comer x e) × (headOf m (c .van) ≡ v)
       unfolding offers
       offers-say e h = heading-says 1024 0 e (subst (List·Memᴰ e) (offers-are hv) h) .0
 
       pub offers-have : (j : ℕ) (van : Van) → slotOf s j ≡ present van → van .holder ≡ 0 → headOf m van ≡ v
-          → List·Memᴰ (entry m x j van) (vanOffers mem (countsIn mem) near 1024 (word mem (vertexAt (countsIn mem) v + 4)))
+          → List·Memᴰ (entry m x j van) (vanOffers mem (countsIn mem) near 1024 (word mem (vertexAddress (countsIn mem) v + 4)))
       unfolding offers
       offers-have j van there free heads =
           subst⁻¹ (List·Memᴰ (entry m x j van)) (offers-are hv) (heading-has 1024 0 j van (omega arith) (omega (arith, van-below j van there)) there free heads)
 
-      pub offers-distinct : Distinct (vanOffers mem (countsIn mem) near 1024 (word mem (vertexAt (countsIn mem) v + 4)))
+      pub offers-distinct : Distinct (vanOffers mem (countsIn mem) near 1024 (word mem (vertexAddress (countsIn mem) v + 4)))
       unfolding offers
       offers-distinct = subst⁻¹ Distinct (offers-are hv) (heading-distinct 1024 0)

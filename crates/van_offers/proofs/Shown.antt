@@ -13,7 +13,7 @@ use Rattle.image.specs.Places.{verticesAt, roadsAt, vansAt}
 use Rattle.image.specs.Image.{headPart, vertexRecord, image}
 use Rattle.image.specs.Records.{roadRecord, vanWords}
 use Rattle.image.proofs.Records.{head-word, vertex-word, road-word, van-word, vertices-start, roads-start, vans-start}
-use Rattle.places.specs.Place.{countsIn, vertexAt, roadAt, vanAt}
+use Rattle.places.specs.Place.{countsIn, vertexAddress, roadAddress, vanAddress}
 use Rattle.van_offers.specs.Genuine.{Genuine}
 
 module _ {m : Map} {s : State} {mem : List ℕ} (g : Genuine m s mem) where
@@ -35,20 +35,20 @@ module _ {m : Map} {s : State} {mem : List ℕ} (g : Genuine m s mem) where
   unfolding headPart
   parts-read = at-word 4 ∙ head-word m s slots 4 (omega arith)
 
-  pub vertex-place : (v : ℕ) → vertexAt (countsIn mem) v ≡ verticesAt m + 8 * v
+  pub vertex-place : (v : ℕ) → vertexAddress (countsIn mem) v ≡ verticesAt m + 8 * v
   vertex-place v = omega (arith, parts-read, vertices-start m)
 
-  pub road-place : (r : ℕ) → roadAt (countsIn mem) r ≡ roadsAt m + 4 * r
+  pub road-place : (r : ℕ) → roadAddress (countsIn mem) r ≡ roadsAt m + 4 * r
   road-place r = omega (arith, parts-read, vertices-read, roads-start m)
 
-  pub van-place : (v : ℕ) → vanAt (countsIn mem) v ≡ vansAt m + 8 * v
+  pub van-place : (v : ℕ) → vanAddress (countsIn mem) v ≡ vansAt m + 8 * v
   van-place v = omega (arith, parts-read, vertices-read, roads-read, roads-start m, vans-start m)
 
-  pub vertex-read : (v w : ℕ) → v < m .vertices → w < 8 → word mem (vertexAt (countsIn mem) v + w) ≡ word (vertexRecord m s v) w
+  pub vertex-read : (v w : ℕ) → v < m .vertices → w < 8 → word mem (vertexAddress (countsIn mem) v + w) ≡ word (vertexRecord m s v) w
   vertex-read v w hv hw = ap (λ (k : ℕ). word mem (k + w)) (vertex-place v) ∙ at-word (verticesAt m + 8 * v + w) ∙ vertex-word m s slots v w hv hw
 
-  pub road-read : (r w : ℕ) → r < roadCount m → w < 4 → word mem (roadAt (countsIn mem) r + w) ≡ word (roadRecord m r) w
+  pub road-read : (r w : ℕ) → r < roadCount m → w < 4 → word mem (roadAddress (countsIn mem) r + w) ≡ word (roadRecord m r) w
   road-read r w hr hw = ap (λ (k : ℕ). word mem (k + w)) (road-place r) ∙ at-word (roadsAt m + 4 * r + w) ∙ road-word m s slots r w hr hw
 
-  pub van-read : (i w : ℕ) → i < vans → w < 8 → word mem (vanAt (countsIn mem) i + w) ≡ word (vanWords m s i) w
+  pub van-read : (i w : ℕ) → i < vans → w < 8 → word mem (vanAddress (countsIn mem) i + w) ≡ word (vanWords m s i) w
   van-read i w hi hw = ap (λ (k : ℕ). word mem (k + w)) (van-place i) ∙ at-word (vansAt m + 8 * i + w) ∙ van-word m s slots i w hi hw

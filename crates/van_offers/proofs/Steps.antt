@@ -12,7 +12,7 @@ use borrow.Author.Tests.{lt-ltb, le-ltb}
 use Rattle.words.specs.Limits.{FAR}
 use Rattle.words.specs.Lists.{word}
 use Rattle.counts.specs.declared.Counts.{Counts}
-use Rattle.places.specs.Place.{vertexAt, vanAt}
+use Rattle.places.specs.Place.{vertexAddress, vanAddress}
 use Rattle.fleet.specs.Question.{Listed}
 use Rattle.best_list.specs.Best.{listed, limitOf, offered, offeredAll}
 use Rattle.best_list.proofs.Pass.{offer-beyond}
@@ -30,9 +30,9 @@ module _ (mem : List ℕ) (counts : Counts) (near k : ℕ) (l : List Listed) whe
   vans-beyond zero link most beyond = refl
   vans-beyond (suc n) zero most beyond = refl
   vans-beyond (suc n) (suc van) most beyond =
-      ap (λ (r : List Listed). offeredAll k r (vanOffers mem counts near n (word mem (vanAt counts van + 4))))
-      (offer-beyond k (listed (stampIn mem counts) (min (near + word mem (vanAt counts van + 2)) FAR) van) l (omega arith))
-      ∙ (vans-beyond n (word mem (vanAt counts van + 4)) most beyond)
+      ap (λ (r : List Listed). offeredAll k r (vanOffers mem counts near n (word mem (vanAddress counts van + 4))))
+      (offer-beyond k (listed (stampIn mem counts) (min (near + word mem (vanAddress counts van + 2)) FAR) van) l (omega arith))
+      ∙ (vans-beyond n (word mem (vanAddress counts van + 4)) most beyond)
 
   -- the list of vans has ended, or as many were followed as there are
   pub vans-end : {target : List Listed} (left link : ℕ) → link ≡ 0 → offeredAll k l (vanOffers mem counts near left link) ≡ target → l ≡ target
@@ -46,8 +46,8 @@ module _ (mem : List ℕ) (counts : Counts) (near k : ℕ) (l : List Listed) whe
   vans-out zero link out e = e
   vans-out (suc left) link out e = absurd (omega arith)
 
-  vans-step : (left link van offset far next : ℕ) → 0 < left → link ≢ 0 → van ≡ link - 1 → offset ≡ word mem (vanAt counts van + 2) → far ≡ min (near + offset) 4294967295
-      → next ≡ word mem (vanAt counts van + 4) → offeredAll k (offered k (listed (stampIn mem counts) far van) l) (vanOffers mem counts near (left - 1) next) ≡ offeredAll k l (vanOffers mem counts near left link)
+  vans-step : (left link van offset far next : ℕ) → 0 < left → link ≢ 0 → van ≡ link - 1 → offset ≡ word mem (vanAddress counts van + 2) → far ≡ min (near + offset) 4294967295
+      → next ≡ word mem (vanAddress counts van + 4) → offeredAll k (offered k (listed (stampIn mem counts) far van) l) (vanOffers mem counts near (left - 1) next) ≡ offeredAll k l (vanOffers mem counts near left link)
   unfolding offeredAll vanOffers
   vans-step zero link van offset far next some real isVan isOffset isFar isNext = absurd (omega arith)
   vans-step (suc n) zero van offset far next some real isVan isOffset isFar isNext = absurd (real refl)
@@ -56,14 +56,14 @@ module _ (mem : List ℕ) (counts : Counts) (near k : ℕ) (l : List Listed) whe
       let fewer : suc n - 1 ≡ n = omega arith in
       λ i. offeredAll k (offered k (listed (stampIn mem counts) (far-is same i) (same i)) l) (vanOffers mem counts near (fewer i) (next-is same i))
     where
-      far-is : van ≡ v → far ≡ min (near + word mem (vanAt counts v + 2)) FAR
-      far-is same = isFar ∙ ap (λ (o : ℕ). min (near + o) FAR) (isOffset ∙ ap (λ (w : ℕ). word mem (vanAt counts w + 2)) same)
+      far-is : van ≡ v → far ≡ min (near + word mem (vanAddress counts v + 2)) FAR
+      far-is same = isFar ∙ ap (λ (o : ℕ). min (near + o) FAR) (isOffset ∙ ap (λ (w : ℕ). word mem (vanAddress counts w + 2)) same)
 
-      next-is : van ≡ v → next ≡ word mem (vanAt counts v + 4)
-      next-is same = isNext ∙ ap (λ (w : ℕ). word mem (vanAt counts w + 4)) same
+      next-is : van ≡ v → next ≡ word mem (vanAddress counts v + 4)
+      next-is same = isNext ∙ ap (λ (w : ℕ). word mem (vanAddress counts w + 4)) same
 
-  pub vans-again : {target after : List Listed} (left link van offset far next : ℕ) → 0 < left → link ≢ 0 → van ≡ link - 1 → offset ≡ word mem (vanAt counts van + 2)
-      → far ≡ min (near + offset) 4294967295 → next ≡ word mem (vanAt counts van + 4) → after ≡ offered k (listed (stampIn mem counts) far van) l
+  pub vans-again : {target after : List Listed} (left link van offset far next : ℕ) → 0 < left → link ≢ 0 → van ≡ link - 1 → offset ≡ word mem (vanAddress counts van + 2)
+      → far ≡ min (near + offset) 4294967295 → next ≡ word mem (vanAddress counts van + 4) → after ≡ offered k (listed (stampIn mem counts) far van) l
       → offeredAll k l (vanOffers mem counts near left link) ≡ target → offeredAll k after (vanOffers mem counts near (left - 1) next) ≡ target
   vans-again left link van offset far next some real isVan isOffset isFar isNext isAfter rest =
       ap (λ (r : List Listed). offeredAll k r (vanOffers mem counts near (left - 1) next)) isAfter
@@ -93,7 +93,7 @@ module _ (mem : List ℕ) (counts : Counts) (first : ℕ) (dx rows : List ℕ) (
     none-near far = rw (le-ltb (word dx (rowOwner mem first i)) FAR (omega (arith, near-is)))
 
     some-near : near < FAR → vertexOffers mem counts (rowOwner mem first i) (word dx (rowOwner mem first i))
-        ≡ vanOffers mem counts (word dx (rowOwner mem first i)) 1024 (word mem (vertexAt counts (rowOwner mem first i) + 4))
+        ≡ vanOffers mem counts (word dx (rowOwner mem first i)) 1024 (word mem (vertexAddress counts (rowOwner mem first i) + 4))
     unfolding vertexOffers
     some-near real = rw (lt-ltb (word dx (rowOwner mem first i)) FAR (omega (arith, near-is)))
 
@@ -102,12 +102,12 @@ module _ (mem : List ℕ) (counts : Counts) (first : ℕ) (dx rows : List ℕ) (
     rows-skip far =
         ap (λ (es : List Listed). offeredAll k (offeredAll k l es) (rowOffers mem counts first dx (slice (t + 1) count rows))) (sym (none-near far)) ∙ next-row
 
-    pub rows-offer : {link : ℕ} {after : List Listed} → near < FAR → link ≡ word mem (vertexAt counts v + 4) → after ≡ offeredAll k l (vanOffers mem counts near 1024 link)
+    pub rows-offer : {link : ℕ} {after : List Listed} → near < FAR → link ≡ word mem (vertexAddress counts v + 4) → after ≡ offeredAll k l (vanOffers mem counts near 1024 link)
         → offeredAll k after (rowOffers mem counts first dx (slice (t + 1) count rows)) ≡ target
     rows-offer {link} {after} real isLink isAfter =
         ap (λ (r : List Listed). offeredAll k r (rowOffers mem counts first dx (slice (t + 1) count rows)))
         (isAfter
-        ∙ (λ j. offeredAll k l (vanOffers mem counts (near-is j) 1024 ((isLink ∙ ap (λ (u : ℕ). word mem (vertexAt counts u + 4)) isOwner) j)))
+        ∙ (λ j. offeredAll k l (vanOffers mem counts (near-is j) 1024 ((isLink ∙ ap (λ (u : ℕ). word mem (vertexAddress counts u + 4)) isOwner) j)))
         ∙ ap (offeredAll k l) (sym (some-near real)))
         ∙ next-row
 

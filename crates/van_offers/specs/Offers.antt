@@ -6,20 +6,20 @@ use lib.Dec.{ltb}
 use Rattle.words.specs.Limits.{FAR}
 use Rattle.words.specs.Lists.{word}
 use Rattle.counts.specs.declared.Counts.{Counts}
-use Rattle.places.specs.Place.{vertexAt, vanAt}
+use Rattle.places.specs.Place.{vertexAddress, vanAddress}
 use Rattle.fleet.specs.Question.{Listed}
 use Rattle.best_list.specs.Best.{listed}
 
 -- the stamp that a memory shows for a van
 abbrev pub stampIn : List ℕ → Counts → ℕ → ℕ
-stampIn mem counts van = word mem (vanAt counts van + 3)
+stampIn mem counts van = word mem (vanAddress counts van + 3)
 
 -- the vans of a list of at most n, which starts at a link: each at its offset beyond `near`
 unfoldable pub vanOffers : List ℕ → Counts → ℕ → ℕ → ℕ → List Listed
 vanOffers mem counts near zero link = []
 vanOffers mem counts near (suc n) zero = []
 vanOffers mem counts near (suc n) (suc van) =
-    listed (stampIn mem counts) (min (near + word mem (vanAt counts van + 2)) FAR) van ∷ vanOffers mem counts near n (word mem (vanAt counts van + 4))
+    listed (stampIn mem counts) (min (near + word mem (vanAddress counts van + 2)) FAR) van ∷ vanOffers mem counts near n (word mem (vanAddress counts van + 4))
 
 -- the vertex of row i, where the rows start at `first`
 abbrev pub rowOwner : List ℕ → ℕ → ℕ → ℕ
@@ -27,7 +27,7 @@ rowOwner mem first i = word mem (first + 4 * i + 2) % 65536
 
 -- the vans that head for a vertex at distance `near`, where it can reach
 unfoldable pub vertexOffers : List ℕ → Counts → ℕ → ℕ → List Listed
-vertexOffers mem counts v near = cond (ltb near FAR) (vanOffers mem counts near 1024 (word mem (vertexAt counts v + 4))) []
+vertexOffers mem counts v near = cond (ltb near FAR) (vanOffers mem counts near 1024 (word mem (vertexAddress counts v + 4))) []
 
 -- those of the vertices of some rows, by their numbers
 unfoldable pub rowOffers : List ℕ → Counts → ℕ → List ℕ → List ℕ → List Listed

@@ -12,7 +12,7 @@ ghost use mathlib.Core.Path.{_≡_};
 ghost use Prim.Native.Nat.{_+_, _*_, _≤_, _<_, _^_};
 ghost use lib.ListN.{length, take};
 ghost use Rattle.words.specs.Lists.{word};
-ghost use Rattle.places.specs.Place.{vertexAt, vanAt};
+ghost use Rattle.places.specs.Place.{vertexAddress, vanAddress};
 ghost use Rattle.best_list.specs.Best.{entries, offeredAll, InOrder};
 ghost use Rattle.van_offers.specs.Offers.{stampIn, vanOffers, rowOffers};
 
@@ -21,7 +21,7 @@ pub const MOST_VANS: u32 = 1024;
 // Word w of a van's record.
 pub fn van_word(mem: &[u32], counts: Counts, van: u32, w: usize) -> u32
     requires { ⌜ w < 8 ⌝ }
-    ensures { λ r. ⌜ r ≡ word (now (mem .entry)) (vanAt counts van + w) ⌝ }
+    ensures { λ r. ⌜ r ≡ word (now (mem .entry)) (vanAddress counts van + w) ⌝ }
 {
     word(mem, van_at(counts, van) + w)
 }
@@ -29,7 +29,7 @@ pub fn van_word(mem: &[u32], counts: Counts, van: u32, w: usize) -> u32
 // Word w of a vertex's record.
 pub fn vertex_word(mem: &[u32], counts: Counts, vertex: u32, w: usize) -> u32
     requires { ⌜ w < 8 ⌝ }
-    ensures { λ r. ⌜ r ≡ word (now (mem .entry)) (vertexAt counts vertex + w) ⌝ }
+    ensures { λ r. ⌜ r ≡ word (now (mem .entry)) (vertexAddress counts vertex + w) ⌝ }
 {
     word(mem, vertex_at(counts, vertex) + w)
 }

@@ -1,7 +1,11 @@
 //! What has been seen so far.
 
+use hailtrellis::Refusal;
 use std::fmt;
 use std::ops::AddAssign;
+
+/// The numbers that a call can answer: 0, and each up to the last refusal.
+pub const ANSWERS: usize = 1 + Refusal::ALL[Refusal::ALL.len() - 1] as usize;
 
 /// How many cases and calls there were, and with which answers.
 #[derive(Clone, Copy, Debug, Default, PartialEq, Eq)]
@@ -9,7 +13,7 @@ pub struct Tally {
     /// The cases.
     pub cases: u64,
     /// The calls, openings among them, by the number answered.
-    pub answers: [u64; 16],
+    pub answers: [u64; ANSWERS],
     /// The vans listed.
     pub listed: u64,
     /// The microseconds of the processor that the slowest call took.
@@ -22,11 +26,18 @@ impl Tally {
         self.answers.iter().sum()
     }
 
-    /// Counts an answer.
+    /// Counts an answer; one that is no refusal's number was told as a difference.
     pub fn count(&mut self, code: u32) {
         if let Some(seen) = self.answers.get_mut(code as usize) {
             *seen += 1;
         }
+    }
+
+    /// The answers that never came up.
+    pub fn unseen(&self) -> Vec<u32> {
+        let all = Refusal::ALL.map(Refusal::number);
+        let unseen = |number: &u32| self.answers[*number as usize] == 0;
+        [0].into_iter().chain(all).filter(unseen).collect()
     }
 
     /// The tally as numbers in a line, to be read by another process.

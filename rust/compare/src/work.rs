@@ -235,7 +235,7 @@ pub fn all(base: u64, time: Duration, least_calls: u64) -> bool {
         more += 1;
     }
     println!("all: {sum}");
-    let unseen: Vec<usize> = (0..16).filter(|&n| sum.answers[n] == 0).collect();
+    let unseen = sum.unseen();
     if least_calls > 0 && !unseen.is_empty() {
         println!("FAILED: answers never seen: {unseen:?}");
         return false;

@@ -76,8 +76,9 @@ impl Refusal {
     /// assert_eq!(Refusal::from_number(0), None);
     /// ```
     pub fn from_number(number: u32) -> Option<Refusal> {
-        let place = number.checked_sub(1)? as usize;
-        Refusal::ALL.get(place).copied()
+        Refusal::ALL
+            .into_iter()
+            .find(|refusal| refusal.number() == number)
     }
 }
 

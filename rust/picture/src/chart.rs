@@ -3,7 +3,8 @@
 //! `bench.csv` has a line `chart,cell,series,value` for each result after one line of headings. The chart says what is measured
 //! and in which unit, the cell is the case ("50 vans, k 1"), the series is who was measured ("hailtrellis"), the value is
 //! a number above 0. A field with a comma stands in double quotes. Charts, cells and series are drawn in the order in which
-//! they first come. Bars grow with the logarithm of the value, a thin line at each power of ten.
+//! they first come. All bars of all charts have one axis: they begin at 1 of their unit, or at the power of ten below the
+//! least value if that is less, and grow by as much for each tenfold. The picture says so.
 
 use crate::svg::{Style, Svg};
 
@@ -76,12 +77,24 @@ fn place_of<'a>(names: &mut Vec<&'a str>, name: &'a str) -> usize {
     }
 }
 
-/// A value with its thousands apart.
+/// A value: below 100 with one place after the point.
 fn written(value: f64) -> String {
-    if value < 100.0 {
-        return format!("{value:.1}");
+    match value < 100.0 {
+        true => format!("{value:.1}"),
+        false => thousands(&format!("{value:.0}")),
     }
-    let digits = format!("{value:.0}");
+}
+
+/// A power of ten.
+fn power_of_ten(power: i32) -> String {
+    match power < 0 {
+        true => format!("{}", 10f64.powi(power)),
+        false => thousands(&format!("{:.0}", 10f64.powi(power))),
+    }
+}
+
+/// Digits with their thousands apart.
+fn thousands(digits: &str) -> String {
     let mut text = String::new();
     for (place, digit) in digits.chars().enumerate() {
         if place > 0 && (digits.len() - place) % 3 == 0 {
@@ -98,20 +111,7 @@ impl Chart<'_> {
         70.0 + bars as f64 * BAR + self.cells.len() as f64 * GAP
     }
 
-    /// The powers of ten that all values lie between.
-    fn powers(&self) -> (i32, i32) {
-        let values = || {
-            self.cells
-                .iter()
-                .flat_map(|cell| &cell.bars)
-                .map(|bar| bar.1)
-        };
-        let least = values().fold(f64::INFINITY, f64::min).log10().floor();
-        let most = values().fold(0.0, f64::max).log10().ceil();
-        (least as i32, most.max(least + 1.0) as i32)
-    }
-
-    fn draw(&self, svg: &mut Svg, top: f64) {
+    fn draw(&self, svg: &mut Svg, (least, most): (i32, i32), top: f64) {
         let height = self.height();
         let frame = r##"fill="#ffffff" stroke="#cfd5d8" stroke-width="1""##;
         svg.rectangle((LEFT, top), (WIDTH - 2.0 * LEFT, height), 10.0, frame);
@@ -120,7 +120,6 @@ impl Chart<'_> {
             Style::plain(14.0).bold(),
             self.title,
         );
-        let (least, most) = self.powers();
         let x_of = |value: f64| {
             let share = (value.log10() - least as f64) / (most - least) as f64;
             BARS_FROM + share * (BARS_TO - BARS_FROM)
@@ -130,7 +129,7 @@ impl Chart<'_> {
             let line = r##"stroke="#e1e6e8" stroke-width="1""##;
             svg.line(&[(x, top + 54.0), (x, top + height - 8.0)], line);
             let style = Style::plain(10.0).fill("#8a979e").anchor("middle");
-            svg.text((x, top + 49.0), style, &written(10f64.powi(power)));
+            svg.text((x, top + 49.0), style, &power_of_ten(power));
         }
         let mut y = top + 62.0;
         for cell in &self.cells {
@@ -151,6 +150,14 @@ impl Chart<'_> {
             y += GAP;
         }
     }
+}
+
+/// The axis of all charts: the powers of ten that all values lie between, from 1 or less on.
+fn powers(results: &[([String; 3], f64)]) -> (i32, i32) {
+    let values = || results.iter().map(|result| result.1);
+    let least = values().fold(1.0, f64::min).log10().floor();
+    let most = values().fold(10.0, f64::max).log10().ceil();
+    (least as i32, most as i32)
 }
 
 /// The charts of a file of results.
@@ -176,23 +183,29 @@ pub fn of_results(text: &str) -> Result<String, String> {
             }),
         }
     }
-    let height = 96.0
+    let powers = powers(&results);
+    let height = 122.0
         + charts
             .iter()
             .map(|chart| chart.height() + 16.0)
             .sum::<f64>();
     let mut svg = Svg::new(WIDTH, height);
     svg.text((LEFT, 40.0), Style::plain(20.0).bold(), "Measured");
+    let about = format!(
+        "The axis is logarithmic: every bar begins at {}, and each line stands for ten times the value of the one before it.",
+        power_of_ten(powers.0)
+    );
+    svg.text((LEFT, 64.0), Style::plain(12.5).fill("#546e7a"), &about);
     let mut x = LEFT;
     for (place, name) in series.iter().enumerate() {
         let more = format!(r##"fill="{}""##, COLOURS[place % COLOURS.len()]);
-        svg.rectangle((x, 58.0), (13.0, 13.0), 3.0, &more);
-        svg.text((x + 19.0, 69.0), Style::plain(12.5), name);
+        svg.rectangle((x, 82.0), (13.0, 13.0), 3.0, &more);
+        svg.text((x + 19.0, 93.0), Style::plain(12.5), name);
         x += 46.0 + 7.8 * name.chars().count() as f64;
     }
-    let mut top = 88.0;
+    let mut top = 114.0;
     for chart in &charts {
-        chart.draw(&mut svg, top);
+        chart.draw(&mut svg, powers, top);
         top += chart.height() + 16.0;
     }
     Ok(svg.finished())
@@ -212,6 +225,10 @@ mod tests {
         assert!(of_results(text).unwrap().contains("6,70"));
         assert!(of_results("chart,cell,series,value\na,b,c\n").is_err());
         assert!(of_results("chart,cell,series,value\na,b,c,0\n").is_err());
+        assert_eq!(powers(&read), (0, 4));
         assert_eq!(written(1234567.0), "1,234,567");
+        assert_eq!(written(6.68), "6.7");
+        assert_eq!(power_of_ten(3), "1,000");
+        assert_eq!(power_of_ten(-1), "0.1");
     }
 }

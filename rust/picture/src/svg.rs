@@ -120,6 +120,16 @@ impl Svg {
         self.element(format!(r#"<path d="{path}" {more}/>"#));
     }
 
+    /// Rules for the classes of groups.
+    pub fn style(&mut self, rules: &str) {
+        self.element(format!("<style>{rules}</style>"));
+    }
+
+    /// A group of a class, with what stands in it as SVG writes it.
+    pub fn group(&mut self, class: &str, inside: &str) {
+        self.element(format!(r#"<g class="{class}">{inside}</g>"#));
+    }
+
     /// A text.
     pub fn text(&mut self, place: (f64, f64), style: Style, text: &str) {
         let weight = if style.bold { "bold" } else { "normal" };

@@ -1,4 +1,4 @@
-//! The matching core a second time, written from the scope's text alone.
+//! The matching core a second time, written from document 01, and from `docs/MEMORY.md` where the words of the memory stand.
 //!
 //! Everything here follows the definitions word by word and takes the plainest way there is: distances by Dijkstra's
 //! algorithm from every vertex, borders by looking at every road for every part, rows by looking at every active

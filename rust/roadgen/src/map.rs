@@ -84,7 +84,7 @@ pub struct Place {
     pub offset: u32,
 }
 
-/// Places for `count` vans on roads of the map, which has some.
+/// Places for `count` vans on roads of the map, which has some if `count` is not 0.
 pub fn fleet(roads: &[Road], count: usize, seed: u64) -> Vec<Place> {
     let mut random = Random::new(seed);
     (0..count)

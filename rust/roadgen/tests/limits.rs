@@ -1,6 +1,15 @@
 //! What is made keeps within the limits of a map, and is the same each time.
 
 use roadgen::*;
+use std::ops::Range;
+
+/// The seeds that each test goes through.
+const SEEDS: Range<u64> = 0..5;
+
+fn with_each_seed(check: impl Fn(u64)) {
+    assert!(!SEEDS.is_empty(), "no seed is tried");
+    SEEDS.for_each(check);
+}
 
 fn check(vertices: usize, seed: u64) {
     let network = network(Plan::town(vertices), seed);
@@ -54,7 +63,8 @@ fn check_map(network: &Network, map: &Map, seed: u64) {
     }
     let records = 4 + 8 + 4 + 2 + 2 * parts + 4 + 2 + 2 * vertices + 4 + 2 + 8 * map.roads.len();
     assert_eq!(map.bytes().len(), records);
-    for place in fleet(&map.roads, 100, seed) {
+    let vans = if map.roads.is_empty() { 0 } else { 100 };
+    for place in fleet(&map.roads, vans, seed) {
         let road = map
             .roads
             .iter()
@@ -67,23 +77,20 @@ fn check_map(network: &Network, map: &Map, seed: u64) {
 #[test]
 fn towns_keep_within_the_limits() {
     for vertices in [1, 2, 3, 5, 31, 32, 33, 64, 100, 500, 1000, 2048, 4096] {
-        let seeds = if vertices == 1 { 0 } else { 5 };
-        for seed in 0..seeds {
-            check(vertices, seed);
-        }
+        with_each_seed(|seed| check(vertices, seed));
     }
 }
 
 #[test]
 fn the_largest_map_is_as_large_as_may_be() {
-    for seed in 0..5 {
+    with_each_seed(|seed| {
         let network = network(Plan::largest(), seed);
         let map = cut_finely(&network).expect("the cuts keep within the limits");
         check_map(&network, &map, seed);
         assert_eq!(map.leaves.len(), 4_096);
         assert_eq!(map.roads.len(), MOST_ROADS);
         assert_eq!(map.parents.len(), MOST_PARTS);
-    }
+    });
 }
 
 #[test]

@@ -5,13 +5,13 @@ use mathlib.Core.List.{List}
 use Prim.Native.Nat.{ℕ}
 use borrow.Author.Needs.{needs}
 use Rattle.maps.specs.Bytes.{field, countsOf}
-use Rattle.map_judge.specs.Asked.{asked}
+use Rattle.map_judge.specs.Bodies.{theCounts}
 use Rattle.map_judge.proofs.counts_of.Statement.{statement}
 use Rattle.map_judge.proofs.counts_of.Tie as tie
 
-counts-by : (bytes : List ℕ) {v r p : ℕ} → v ≡ field bytes 6 2 → r ≡ field bytes 8 2 → p ≡ field bytes 10 2 → asked v r p ≡ countsOf bytes
+counts-by : (bytes : List ℕ) {v r p : ℕ} → v ≡ field bytes 6 2 → r ≡ field bytes 8 2 → p ≡ field bytes 10 2 → theCounts v r p ≡ countsOf bytes
 unfolding countsOf
-counts-by bytes isV isR isP = λ i. asked (isV i) (isR i) (isP i)
+counts-by bytes isV isR isP = λ i. theCounts (isV i) (isR i) (isP i)
 
 returns : tie.Need-returns
 returns c = (

@@ -4,7 +4,7 @@ use mathlib.Core.Path.{refl, ap, _∙_}
 use Prim.Native.Nat.{ℕ}
 use lib.ListN.{drop}
 use borrow.Author.Needs.{needs}
-use Rattle.map_judge.specs.Asked.{asked}
+use Rattle.map_judge.specs.Bodies.{theCounts}
 use Rattle.map_judge.proofs.Shown.{roads-by}
 use Rattle.map_judge.proofs.judge_shown.Statement.{statement}
 use Rattle.map_judge.proofs.judge_shown.Tie as tie
@@ -18,7 +18,7 @@ judge-rules-requires c κs = c .before .before .before .before .before .before .
 returns : tie.Need-returns
 returns c = let a = c .before .before .before .before .before .before .before .before .before .args in
     c .judge-rules .ensures _ (c .before .before .before .before .before .show-parts .ensures .2)
-    (roads-by (a .map .now) (asked (a .counts .vertices) (a .counts .roads) (a .counts .parts)) (c .before .rest .ensures ∙ ap (λ (at : ℕ). drop at (a .map .now)) (c .before .before .roads-at .ensures)))
+    (roads-by (a .map .now) (theCounts (a .counts .vertices) (a .counts .roads) (a .counts .parts)) (c .before .rest .ensures ∙ ap (λ (at : ℕ). drop at (a .map .now)) (c .before .before .roads-at .ensures)))
 
 pub judge-shown-spec : {M : Type 1} → statement M
 judge-shown-spec =

@@ -4,13 +4,13 @@ use Prim.Native.Nat.{_-_}
 use mathlib.Core.Path.{refl}
 use native.Mathlib.Omega.{arith}
 use borrow.Author.Needs.{needs}
-use Rattle.map_judge.specs.Asked.{asked}
+use Rattle.map_judge.specs.Bodies.{theCounts}
 use Rattle.map_judge.proofs.Needs.{Summing, square-few, summing-start, summing-step, summing-done}
 use Rattle.map_judge.proofs.need.Statement.{statement}
 use Rattle.map_judge.proofs.need.Tie as tie
 
 abbrev Inv-loop : tie.InvT-loop
-Inv-loop sizes vertices roads parts words₀ p₀ words p = Summing (asked vertices roads parts) sizes p words
+Inv-loop sizes vertices roads parts words₀ p₀ words p = Summing (theCounts vertices roads parts) sizes p words
 
 abbrev μ-loop : tie.MeasureT-loop
 μ-loop sizes vertices roads parts words₀ p₀ words p = parts - p

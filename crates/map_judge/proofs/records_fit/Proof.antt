@@ -9,7 +9,7 @@ use lib.Dec.{eqb}
 use borrow.Author.Tests.{not-true, not-false}
 use Rattle.maps.specs.Bytes.{Counts, isRecord, length2, length3, length4, start2, start3, start4, mapEnd}
 use Rattle.maps.specs.Judge.{restFits}
-use Rattle.map_judge.specs.Asked.{asked}
+use Rattle.map_judge.specs.Bodies.{theCounts}
 use borrow.Author.Needs.{needs}
 use Rattle.map_judge.proofs.records_fit.Statement.{statement}
 use Rattle.map_judge.proofs.records_fit.Tie as tie
@@ -29,24 +29,24 @@ parts bytes c {fits2 = fits2} {fits3 = fits3} {fits4 = fits4} is2 e2 is3 e3 is4 
 returns : tie.Need-returns
 returns c =
     let a = c .before .before .before .args in
-    parts (a .map .now) (asked (a .counts .vertices) (a .counts .roads) (a .counts .parts)) (c .before .is-record .ensures) (not-true _ (c .if1 .taken)) refl refl refl refl
+    parts (a .map .now) (theCounts (a .counts .vertices) (a .counts .roads) (a .counts .parts)) (c .before .is-record .ensures) (not-true _ (c .if1 .taken)) refl refl refl refl
 
 returns-2 : tie.Need-returns-2
 returns-2 c =
     let a = c .before .before .before .before .before .args in
-    parts (a .map .now) (asked (a .counts .vertices) (a .counts .roads) (a .counts .parts)) (c .before .before .before .is-record .ensures) (not-false _ (c .before .before .if1 .left))
+    parts (a .map .now) (theCounts (a .counts .vertices) (a .counts .roads) (a .counts .parts)) (c .before .before .before .is-record .ensures) (not-false _ (c .before .before .if1 .left))
     (c .before .is-record2 .ensures) (not-true _ (c .if2 .taken)) refl refl
 
 returns-3 : tie.Need-returns-3
 returns-3 c =
     let a = c .before .before .before .before .before .before .before .args in
-    parts (a .map .now) (asked (a .counts .vertices) (a .counts .roads) (a .counts .parts)) (c .before .before .before .before .before .is-record .ensures) (not-false _ (c .before .before .before .before .if1 .left))
+    parts (a .map .now) (theCounts (a .counts .vertices) (a .counts .roads) (a .counts .parts)) (c .before .before .before .before .before .is-record .ensures) (not-false _ (c .before .before .before .before .if1 .left))
     (c .before .before .before .is-record2 .ensures) (not-false _ (c .before .before .if2 .left)) (c .before .is-record3 .ensures) (not-true _ (c .if3 .taken))
 
 returns-4 : tie.Need-returns-4
 returns-4 c =
     let a = c .before .before .before .before .before .before .before .args in
-    parts (a .map .now) (asked (a .counts .vertices) (a .counts .roads) (a .counts .parts)) (c .before .before .before .before .before .is-record .ensures) (not-false _ (c .before .before .before .before .if1 .left))
+    parts (a .map .now) (theCounts (a .counts .vertices) (a .counts .roads) (a .counts .parts)) (c .before .before .before .before .before .is-record .ensures) (not-false _ (c .before .before .before .before .if1 .left))
     (c .before .before .before .is-record2 .ensures) (not-false _ (c .before .before .if2 .left)) (c .before .is-record3 .ensures) (not-false _ (c .if3 .left))
 
 pub records-fit-spec : {M : Type 1} → statement M

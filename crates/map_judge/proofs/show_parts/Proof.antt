@@ -4,7 +4,7 @@ use mathlib.Core.Path.{ap, _∙_}
 use Prim.Native.Nat.{ℕ}
 use lib.ListN.{drop}
 use borrow.Author.Needs.{needs}
-use Rattle.map_judge.specs.Asked.{asked}
+use Rattle.map_judge.specs.Bodies.{theCounts}
 use Rattle.map_judge.proofs.Shown.{shows-by}
 use Rattle.map_judge.proofs.show_parts.Statement.{statement}
 use Rattle.map_judge.proofs.show_parts.Tie as tie
@@ -14,7 +14,7 @@ returns c = (
   c .before .before .before .before .copy-numbers .ensures .room ∙ c .before .before .before .before .before .before .before .before .pre .1,
   c .copy-numbers2 .ensures .room ∙ c .before .before .before .before .before .before .before .before .pre .2,
   (let a = c .before .before .before .before .before .before .before .before .args in
-      shows-by (a .map .now) (asked (a .counts .vertices) (a .counts .roads) (a .counts .parts)) (c .before .before .before .before .before .before .rest .ensures) (c .before .before .before .before .copy-numbers .ensures)
+      shows-by (a .map .now) (theCounts (a .counts .vertices) (a .counts .roads) (a .counts .parts)) (c .before .before .before .before .before .before .rest .ensures) (c .before .before .before .before .copy-numbers .ensures)
       (c .before .before .rest2 .ensures ∙ ap (λ (at : ℕ). drop at (a .map .now)) (c .before .before .before .leaves-at .ensures)) (c .copy-numbers2 .ensures)),
 )
 

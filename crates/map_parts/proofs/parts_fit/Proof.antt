@@ -5,7 +5,7 @@ use Prim.Native.Nat.{ℕ}
 use native.Mathlib.Omega.{arith}
 use mathlib.Core.Bool.{Bool}
 use lib.Dec.{eqb}
-use Rattle.words.specs.Limits.{NONE}
+use Rattle.words.specs.Limits.{mostParts, NONE}
 use Rattle.words.proofs.Lists.{all-same}
 use borrow.Author.Tests.{eq-eqb, ne-eqb, not-true, not-false}
 use Rattle.map_parts.proofs.Fits.{no-root, parts-fit-is}
@@ -21,10 +21,10 @@ returns : tie.Need-returns
 returns c m shows = no-root m _ _ _ _ shows (c .before .before .before .before .pre .1) (at-root (c .before .entry .ensures) (ne-eqb _ _ (c .if1 .taken)))
 
 tally-requires : tie.Need-tally-requires
-tally-requires c κs = (refl, λ p. all-same 512 p 0, omega arith)
+tally-requires c κs = (refl, λ p. all-same mostParts p 0, omega arith)
 
 tally-requires-2 : tie.Need-tally-requires-2
-tally-requires-2 c κs = (refl, λ p. all-same 512 p 0, omega arith)
+tally-requires-2 c κs = (refl, λ p. all-same mostParts p 0, omega arith)
 
 returns-2 : tie.Need-returns-2
 returns-2 c m shows =

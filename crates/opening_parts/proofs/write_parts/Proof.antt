@@ -6,7 +6,7 @@ use native.Mathlib.Omega.{arith}
 use lib.ListN.{length, getD}
 use borrow.Author.Needs.{needs}
 use Rattle.roads.specs.Map.{Map}
-use Rattle.opening_parts.specs.Parts.{Ready, PartsStand}
+use Rattle.opening_parts.specs.Parts.{PartsReady, PartsStand}
 use Rattle.opening_parts.proofs.Step.{Families, families-none, parts-none, part-more, size-read, square-fits}
 use Rattle.opening_parts.proofs.write_parts.Statement.{statement}
 use Rattle.opening_parts.proofs.write_parts.Tie as tie
@@ -16,7 +16,7 @@ Inv-loop parents sizes parts tables-end rows-end children₀ mem₀ table₀ row
     (next ≤ parts)
     × (length children ≡ length children₀)
     × (length mem ≡ length mem₀)
-    × ((m : Map) → Ready m parents sizes parts tables-end rows-end children₀ mem₀ → Families m next children table row × PartsStand m next mem₀ mem)
+    × ((m : Map) → PartsReady m parents sizes parts tables-end rows-end children₀ mem₀ → Families m next children table row × PartsStand m next mem₀ mem)
 
 abbrev μ-loop : tie.MeasureT-loop
 μ-loop parents sizes parts tables-end rows-end children₀ mem₀ table₀ row₀ next₀ children mem table row next = next

@@ -6,14 +6,14 @@ use Prim.Native.Nat.{ℕ, _-_, _≤_}
 use native.Mathlib.Omega.{arith}
 use lib.ListN.{length}
 use Rattle.roads.specs.Map.{Map}
-use Rattle.opening_roads.specs.Roads.{Ready, RoadsStand}
+use Rattle.opening_roads.specs.Roads.{RoadsReady, RoadsStand}
 use Rattle.opening_roads.proofs.Step.{roads-none, roads-more}
 use Rattle.opening_roads.proofs.write_roads.Statement.{statement}
 use Rattle.opening_roads.proofs.write_roads.Tie as tie
 
 abbrev Inv-loop : tie.InvT-loop
 Inv-loop body roads base ins₀ mem₀ next₀ ins mem next =
-    (next ≤ roads) × (length ins ≡ length ins₀) × (length mem ≡ length mem₀) × ((m : Map) → Ready m body roads base ins₀ mem₀ → RoadsStand m next mem₀ ins mem)
+    (next ≤ roads) × (length ins ≡ length ins₀) × (length mem ≡ length mem₀) × ((m : Map) → RoadsReady m body roads base ins₀ mem₀ → RoadsStand m next mem₀ ins mem)
 
 abbrev μ-loop : tie.MeasureT-loop
 μ-loop body roads base ins₀ mem₀ next₀ ins mem next = next

@@ -22,14 +22,13 @@ loop-holds c =
 
 loop-again : tie.Need-loop-again Inv-loop μ-loop
 loop-again c =
-    let args = c .before .before .before .before .before .before .before .before .before .before .before .args in
-    let loop = c .before .before .before .before .before .before .before .before .loop in
-    let loop-test = c .before .before .before .before .before .before .before .loop-test in
-    let wide = c .before .before .before .before .before .wide in
-    let wide2 = c .before .before .before .before .wide2 in
-    let word = c .before .before .before .word in
+    let args = c .before .before .before .before .before .before .before .before .before .before .args in
+    let loop = c .before .before .before .before .before .before .before .loop in
+    let loop-test = c .before .before .before .before .before .before .loop-test in
+    let wide = c .before .before .before .before .wide in
+    let part-word = c .before .before .before .part-word in
     let put = c .before .before .put in
-    (omega (arith, loop-test .taken), first-more (args .mem .now) (args .cursors .now) (loop .cursors) _ (loop .p) _ _ _ (loop .inv .1) (wide .ensures) (wide2 .ensures) (word .ensures) (put .ensures))
+    (omega (arith, loop-test .taken), first-more (args .mem .now) (args .cursors .now) (loop .cursors) _ (loop .p) _ _ (loop .inv .1) (wide .ensures) (part-word .ensures) (put .ensures))
 
 same-length : tie.Need-same-length Inv-loop μ-loop
 same-length c = c .before .loop .inv .1 .long
@@ -48,10 +47,6 @@ first-rows-spec =
     Inv-loop
     μ-loop
     loop-holds
-    (search needs)
-    (search needs)
-    (search needs)
-    (search needs)
     (search needs)
     (search needs)
     (search needs)

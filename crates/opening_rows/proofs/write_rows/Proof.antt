@@ -7,7 +7,7 @@ use native.Mathlib.Omega.{arith}
 use lib.ListN.{length, getD}
 use borrow.Author.Needs.{needs}
 use Rattle.roads.specs.Map.{Map}
-use Rattle.opening_rows.specs.Rows.{Ready, RowsStand}
+use Rattle.opening_rows.specs.Rows.{RowsReady, RowsStand}
 use Rattle.opening_rows.proofs.Step.{rows-none, standing, next-vertex}
 use Rattle.opening_rows.proofs.write_rows.Statement.{statement}
 use Rattle.opening_rows.proofs.write_rows.Tie as tie
@@ -17,7 +17,7 @@ Inv-loop parents leaves lifts vertices base cursors₀ mem₀ v₀ cursors mem v
     (v ≤ vertices)
     × (length cursors ≡ length cursors₀)
     × (length mem ≡ length mem₀)
-    × ((m : Map) → Ready m parents leaves lifts vertices base cursors₀ mem₀ → RowsStand m v (λ q. true) mem₀ cursors mem)
+    × ((m : Map) → RowsReady m parents leaves lifts vertices base cursors₀ mem₀ → RowsStand m v (λ q. true) mem₀ cursors mem)
 
 abbrev μ-loop : tie.MeasureT-loop
 μ-loop parents leaves lifts vertices base cursors₀ mem₀ v₀ cursors mem v = vertices - v

@@ -2,6 +2,7 @@
 -- Assumes nothing.
 use Prim.Native.Nat.{ℕ}
 use lib.ListN.{length-replicate}
+use Rattle.words.specs.Limits.{mostParts}
 use Rattle.words.proofs.Lists.{all-same}
 use Rattle.opening_sections.proofs.Ready.{parts-sized, parts-ready}
 use borrow.Author.Needs.{needs}
@@ -16,7 +17,7 @@ returns c =
     λ m leaves body lifts vertices roads shown long.
     write-parts .ensures m
     (parts-ready m (args .parents .now) leaves body lifts (args .sizes .now) vertices roads (args .parts) (args .used) shown (args .mem .now) long _ _
-    (rows-begin .ensures m (parts-sized m (args .parents .now) leaves body lifts (args .sizes .now) vertices roads (args .parts) (args .used) shown (args .mem .now) long)) (length-replicate {A = ℕ} 512 0) (λ q h. all-same 512 q 0))
+    (rows-begin .ensures m (parts-sized m (args .parents .now) leaves body lifts (args .sizes .now) vertices roads (args .parts) (args .used) shown (args .mem .now) long)) (length-replicate {A = ℕ} mostParts 0) (λ q h. all-same mostParts q 0))
 
 pub write-part-section-spec : {M : Type 1} → statement M
 write-part-section-spec =

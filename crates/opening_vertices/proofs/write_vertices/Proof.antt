@@ -5,11 +5,12 @@ use Prim.Native.Nat.{ℕ, _-_, _≤_}
 use native.Mathlib.Omega.{arith}
 use lib.ListN.{length, getD}
 use borrow.Author.Needs.{needs}
+use Rattle.layout.specs.Layout.{vertex·words}
 use Rattle.roads.specs.Map.{Map}
 use Rattle.image.specs.Places.{verticesAt}
 use Rattle.records.proofs.Written.{written-none}
 use Rattle.opening_fresh.specs.Fresh.{freshVertex}
-use Rattle.opening_vertices.specs.Vertices.{Ready, VerticesStand}
+use Rattle.opening_vertices.specs.Vertices.{VerticesReady, VerticesStand}
 use Rattle.opening_vertices.proofs.Step.{Taken, taken-none, vertex-more}
 use Rattle.opening_vertices.proofs.write_vertices.Statement.{statement}
 use Rattle.opening_vertices.proofs.write_vertices.Tie as tie
@@ -19,7 +20,7 @@ Inv-loop leaves body roads vertices base ins places₀ mem₀ road₀ v₀ place
     (v ≤ vertices)
     × (length places ≡ length places₀)
     × (length mem ≡ length mem₀)
-    × ((m : Map) → Ready m leaves body roads vertices base ins places₀ mem₀ → Taken m v places road × VerticesStand m v mem₀ mem)
+    × ((m : Map) → VerticesReady m leaves body roads vertices base ins places₀ mem₀ → Taken m v places road × VerticesStand m v mem₀ mem)
 
 abbrev μ-loop : tie.MeasureT-loop
 μ-loop leaves body roads vertices base ins places₀ mem₀ road₀ v₀ places mem road v = vertices - v
@@ -27,7 +28,7 @@ abbrev μ-loop : tie.MeasureT-loop
 loop-holds : tie.Need-loop-holds Inv-loop μ-loop
 loop-holds c =
     let args = c .before .before .before .before .before .args in
-    (omega arith, refl, refl, λ m ready. (taken-none m (args .leaves .now) (args .body .now) (args .roads) (args .vertices) (args .base) (args .ins .now) (args .places .now) (args .mem .now) ready, written-none (verticesAt m) 8 (freshVertex m) 0 (args .mem .now)))
+    (omega arith, refl, refl, λ m ready. (taken-none m (args .leaves .now) (args .body .now) (args .roads) (args .vertices) (args .base) (args .ins .now) (args .places .now) (args .mem .now) ready, written-none (verticesAt m) vertex·words (freshVertex m) 0 (args .mem .now)))
 
 loop-again : tie.Need-loop-again Inv-loop μ-loop
 loop-again c =

@@ -9,11 +9,11 @@ use lib.ListN.{length}
 use borrow.Author.Needs.{needs}
 use borrow.Author.Tests.{le-leb, lt-leb}
 use Rattle.maps.specs.Bytes.{field}
-use Rattle.packs.specs.Pack.{Stands}
+use Rattle.packs.specs.Pack.{ItemStands}
 use Rattle.packs.proofs.item_at.Statement.{statement}
 use Rattle.packs.proofs.item_at.Tie as tie
 
-cut : (pack : List ℕ) (at : ℕ) → at < length pack → length pack < at + 4 + field pack at 4 → Stands pack at (record { start = length pack; end = length pack; whole = false })
+cut : (pack : List ℕ) (at : ℕ) → at < length pack → length pack < at + 4 + field pack at 4 → ItemStands pack at (record { start = length pack; end = length pack; whole = false })
 cut pack at some long =
     record {
       held = sym (lt-leb (at + 4 + field pack at 4) (length pack) long);
@@ -25,7 +25,7 @@ cut pack at some long =
       within = omega arith;
     }
 
-whole : (pack : List ℕ) (at : ℕ) {len : ℕ} → len ≡ field pack at 4 → at + 4 + len ≤ length pack → Stands pack at (record { start = at + 4; end = at + 4 + len; whole = true })
+whole : (pack : List ℕ) (at : ℕ) {len : ℕ} → len ≡ field pack at 4 → at + 4 + len ≤ length pack → ItemStands pack at (record { start = at + 4; end = at + 4 + len; whole = true })
 whole pack at is fits =
     record {
       held = sym (le-leb (at + 4 + field pack at 4) (length pack) (omega arith));

@@ -4,7 +4,7 @@ use borrow.Author.Needs.{needs}
 use mathlib.Core.Path.{_≡_, refl, _∙_}
 use Prim.Native.Nat.{_-_}
 use lib.ListN.{length}
-use Rattle.assembly.proofs.Roads.{RoadsTo, roads-first, roads-turn, roads-done}
+use Rattle.assembly.proofs.Roads.{first-road-is, RoadsTo, roads-first, roads-turn, roads-done}
 use Rattle.table_roads.proofs.lower_by_roads.Statement.{statement}
 use Rattle.table_roads.proofs.lower_by_roads.Tie as tie
 
@@ -18,10 +18,31 @@ loop-holds : tie.Need-loop-holds Inv-loop μ-loop
 loop-holds c = (refl, refl, roads-first _ _ _ _ _ _)
 
 loop-again : tie.Need-loop-again Inv-loop μ-loop
-loop-again c = (c .before .before .before .before .lower-by-road .ensures .1 .0 ∙ c .before .before .before .before .before .before .before .before .loop .inv .0, c .before .before .before .before .lower-by-road .ensures .1 .1 ∙ c .before .before .before .before .before .before .before .before .loop .inv .1, roads-turn _ _ _ _ _ _ _ _ _ _ _ (c .before .before .before .before .before .before .before .before .loop .inv .1) (search needs) (c .before .before .before .before .before .before .before .before .before .before .before .before .before .before .before .before .of-part .ensures) (c .before .before .before .before .before .before .before .before .before .before .before .before .before .before .of-row .ensures) (c .before .before .before .before .before .before .before .before .before .before .before .before .before .vertex-of .ensures .1) (c .before .before .before .before .before .before .before .before .before .first-road2 .ensures) (c .before .before .before .before .before .before .before .before .loop .inv .2) (c .before .before .before .before .lower-by-road .ensures .0))
+loop-again c =
+    let lowered = c .before .before .before .before .lower-by-road in
+    let loop = c .before .before .before .before .before .before .before .before .loop in
+    let end = c .before .before .before .before .before .before .before .before .before .first-road2 in
+    let counts = c .before .before .before .before .before .before .before .before .before .before .before .before .before .counts-in in
+    let own = c .before .before .before .before .before .before .before .before .before .before .before .before .before .before .before .vertex-of in
+    let row = c .before .before .before .before .before .before .before .before .before .before .before .before .before .before .before .before .row-word in
+    let first = c .before .before .before .before .before .before .before .before .before .before .before .before .before .before .before .before .before .before .part-word in (
+      lowered .ensures .1 .0 ∙ loop .inv .0,
+      lowered .ensures .1 .1 ∙ loop .inv .1,
+      roads-turn _ _ _ _ _ _ _ _ _ _ _ (loop .inv .1) (search needs) (first .ensures) (row .ensures) (own .ensures .1) (first-road-is _ _ (counts .ensures) (end .ensures)) (loop .inv .2) (lowered .ensures .0),
+    )
 
 returns : tie.Need-returns Inv-loop μ-loop
-returns c = (roads-done _ _ _ _ _ _ _ _ _ (search needs) (c .before .before .before .before .before .before .before .before .before .of-part .ensures) (c .before .before .before .before .before .before .before .of-row .ensures) (c .before .before .before .before .before .before .vertex-of .ensures .1) (c .before .before .before .before .first-road .ensures) (c .before .before .first-road2 .ensures) (c .before .loop .inv .2), (c .before .loop .inv .0, c .before .loop .inv .1))
+returns c =
+    let loop = c .before .loop in
+    let end = c .before .before .first-road2 in
+    let start = c .before .before .before .before .first-road in
+    let counts = c .before .before .before .before .before .before .counts-in in
+    let own = c .before .before .before .before .before .before .before .before .vertex-of in
+    let row = c .before .before .before .before .before .before .before .before .before .row-word in
+    let first = c .before .before .before .before .before .before .before .before .before .before .before .part-word in (
+      roads-done _ _ _ _ _ _ _ _ _ (search needs) (first .ensures) (row .ensures) (own .ensures .1) (first-road-is _ _ (counts .ensures) (start .ensures)) (first-road-is _ _ (counts .ensures) (end .ensures)) (loop .inv .2),
+      (loop .inv .0, loop .inv .1),
+    )
 
 pub lower-by-roads-spec : {M : Type 1} → statement M
 lower-by-roads-spec =
@@ -29,6 +50,7 @@ lower-by-roads-spec =
     (tie.spec
     Inv-loop
     μ-loop
+    (search needs)
     (search needs)
     (search needs)
     (search needs)

@@ -18,10 +18,10 @@ loop-holds : tie.Need-loop-holds Inv-loop μ-loop
 loop-holds c = (search needs, refl, noted-first _ _ _ _)
 
 loop-again : tie.Need-loop-again Inv-loop μ-loop
-loop-again c = (search needs, search needs, noted-turn _ _ _ _ _ (search needs) (c .before .before .before .before .before .before .before .before .before .before .of-part .ensures) (c .before .before .before .before .before .before .before .before .loop .inv .1) (c .before .before .before .before .before .before .before .before .loop .inv .2) (c .before .before .before .before .before .before .before .before .before .of-part2 .ensures) (c .before .before .before .before .before .before .of-row .ensures) (c .before .before .before .before .before .vertex-of .ensures .1) (c .before .before .before .wide .ensures) (c .before .before .put .ensures))
+loop-again c = (search needs, search needs, noted-turn _ _ _ _ _ (search needs) (c .before .before .before .before .before .before .before .before .before .before .part-word .ensures) (c .before .before .before .before .before .before .before .before .loop .inv .1) (c .before .before .before .before .before .before .before .before .loop .inv .2) (c .before .before .before .before .before .before .before .before .before .part-word2 .ensures) (c .before .before .before .before .before .before .row-word .ensures) (c .before .before .before .before .before .vertex-of .ensures .1) (c .before .before .before .wide .ensures) (c .before .before .put .ensures))
 
 returns : tie.Need-returns Inv-loop μ-loop
-returns c = (noted-done _ _ _ _ _ (c .before .loop .inv .0) (search needs) (c .before .before .before .of-part .ensures) (c .before .loop .inv .2), c .before .loop .inv .1)
+returns c = (noted-done _ _ _ _ _ (c .before .loop .inv .0) (search needs) (c .before .before .before .part-word .ensures) (c .before .loop .inv .2), c .before .loop .inv .1)
 
 pub note-rows-spec : {M : Type 1} → statement M
 note-rows-spec =

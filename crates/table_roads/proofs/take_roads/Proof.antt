@@ -18,10 +18,10 @@ loop-holds : tie.Need-loop-holds Inv-loop μ-loop
 loop-holds c = (search needs, refl, refl, taken-first _ _ _ _)
 
 loop-again : tie.Need-loop-again Inv-loop μ-loop
-loop-again c = (search needs, c .before .before .before .before .lower-by-roads .ensures .1 .0 ∙ c .before .before .before .before .before .before .before .before .loop .inv .1, c .before .before .before .before .lower-by-roads .ensures .1 .1 ∙ c .before .before .before .before .before .before .before .before .loop .inv .2, taken-turn _ _ _ _ _ _ _ _ _ (c .before .before .before .before .before .before .before .before .loop .inv .2) (search needs) (c .before .before .before .before .before .before .before .before .before .of-part .ensures) (c .before .before .before .before .before .before .before .before .loop .inv .3) (c .before .before .before .before .lower-by-roads .ensures .0))
+loop-again c = (search needs, c .before .before .before .before .lower-by-roads .ensures .1 .0 ∙ c .before .before .before .before .before .before .before .before .loop .inv .1, c .before .before .before .before .lower-by-roads .ensures .1 .1 ∙ c .before .before .before .before .before .before .before .before .loop .inv .2, taken-turn _ _ _ _ _ _ _ _ _ (c .before .before .before .before .before .before .before .before .loop .inv .2) (search needs) (c .before .before .before .before .before .before .before .before .before .part-word .ensures) (c .before .before .before .before .before .before .before .before .loop .inv .3) (c .before .before .before .before .lower-by-roads .ensures .0))
 
 returns : tie.Need-returns Inv-loop μ-loop
-returns c = (taken-done _ _ _ _ _ _ _ (c .before .loop .inv .0) (search needs) (c .before .before .of-part .ensures) (c .before .loop .inv .3), (c .before .loop .inv .1, c .before .loop .inv .2))
+returns c = (taken-done _ _ _ _ _ _ _ (c .before .loop .inv .0) (search needs) (c .before .before .part-word .ensures) (c .before .loop .inv .3), (c .before .loop .inv .1, c .before .loop .inv .2))
 
 pub take-roads-spec : {M : Type 1} → statement M
 take-roads-spec =

@@ -3,13 +3,14 @@
 use borrow.Author.Needs.{needs}
 use mathlib.Core.Path.{refl}
 use Prim.Native.Nat.{_-_, _≤_}
+use Rattle.words.specs.Limits.{FAR}
 use Rattle.table_rows.specs.Flat.{Begins}
 use Rattle.table_rows.proofs.Rows.{begins-none, begins-more, begins-all}
 use Rattle.table_rows.proofs.fill_far.Statement.{statement}
 use Rattle.table_rows.proofs.fill_far.Tie as tie
 
 abbrev Inv-loop : tie.InvT-loop
-Inv-loop row₀ n i₀ row i = (i ≤ n) × Begins i (λ j. 4294967295) row₀ row
+Inv-loop row₀ n i₀ row i = (i ≤ n) × Begins i (λ j. FAR) row₀ row
 
 abbrev μ-loop : tie.MeasureT-loop
 μ-loop row₀ n i₀ row i = n - i

@@ -6,7 +6,7 @@ use Rattle.table_words.proofs.row_below.Statement.{statement}
 use Rattle.table_words.proofs.row_below.Tie as tie
 
 returns : tie.Need-returns
-returns c = below-shown _ (c .before .before .before .before .before .before .of-row .ensures) (c .before .before .before .before .before .part-of .ensures) (c .before .before .before .before .of-part .ensures) (c .before .before .before .of-part2 .ensures) (c .before .before .of-part3 .ensures) (c .before .of-row2 .ensures) (c .place-of .ensures)
+returns c = below-shown _ (c .before .before .before .before .before .before .row-word .ensures) (c .before .before .before .before .before .part-of .ensures) (c .before .before .before .before .part-word .ensures) (c .before .before .before .part-word2 .ensures) (c .before .before .part-word3 .ensures) (c .before .row-word2 .ensures) (c .place-of .ensures)
 
 pub row-below-spec : {M : Type 1} → statement M
 row-below-spec =

@@ -18,10 +18,10 @@ loop-holds : tie.Need-loop-holds Inv-loop μ-loop
 loop-holds c = (search needs, refl, closed-first _ _ _)
 
 loop-again : tie.Need-loop-again Inv-loop μ-loop
-loop-again c = (search needs, c .before .before .try-halt .ensures .sized ∙ c .before .before .before .before .before .loop .inv .1, closed-turn _ _ _ _ _ _ (search needs) (c .before .before .before .before .before .before .before .before .of-part .ensures) (c .before .before .before .before .before .before .of-part2 .ensures) (c .before .before .before .before .before .loop .inv .2) (c .before .before .try-halt .ensures))
+loop-again c = (search needs, c .before .before .try-halt .ensures .sized ∙ c .before .before .before .before .before .loop .inv .1, closed-turn _ _ _ _ _ _ (search needs) (c .before .before .before .before .before .before .before .before .part-word .ensures) (c .before .before .before .before .before .before .part-word2 .ensures) (c .before .before .before .before .before .loop .inv .2) (c .before .before .try-halt .ensures))
 
 returns : tie.Need-returns Inv-loop μ-loop
-returns c = (closed-done _ _ _ _ _ (c .before .loop .inv .0) (search needs) (c .before .before .before .before .of-part .ensures) (c .before .loop .inv .2), c .before .loop .inv .1)
+returns c = (closed-done _ _ _ _ _ (c .before .loop .inv .0) (search needs) (c .before .before .before .before .part-word .ensures) (c .before .loop .inv .2), c .before .loop .inv .1)
 
 pub close-spec : {M : Type 1} → statement M
 close-spec =

@@ -18,10 +18,10 @@ loop-holds : tie.Need-loop-holds Inv-loop μ-loop
 loop-holds c = (search needs, refl, entered-first _ _)
 
 loop-again : tie.Need-loop-again Inv-loop μ-loop
-loop-again c = (search needs, search needs, entered-turn _ _ _ _ _ (search needs) (c .before .before .before .before .before .before .of-part .ensures) (c .before .before .before .before .before .loop .inv .2) (c .before .before .enter-row .ensures .0))
+loop-again c = (search needs, search needs, entered-turn _ _ _ _ _ (search needs) (c .before .before .before .before .before .before .part-word .ensures) (c .before .before .before .before .before .loop .inv .2) (c .before .before .enter-row .ensures .0))
 
 returns : tie.Need-returns Inv-loop μ-loop
-returns c = (entered-done _ _ _ _ (c .before .loop .inv .0) (search needs) (c .before .before .of-part .ensures) (c .before .loop .inv .2), c .before .loop .inv .1)
+returns c = (entered-done _ _ _ _ (c .before .loop .inv .0) (search needs) (c .before .before .part-word .ensures) (c .before .loop .inv .2), c .before .loop .inv .1)
 
 pub enter-rows-spec : {M : Type 1} → statement M
 enter-rows-spec =

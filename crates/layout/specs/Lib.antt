@@ -1,0 +1,2 @@
+-- Where the words of a memory stand.
+pub mod Layout
