@@ -1,8 +1,2 @@
--- Laws that the functions and the crates above cite.
-pub mod Listing
-pub mod Ways
-pub mod Lowering
-pub mod Relaxing
-pub mod Spreading
+-- Laws that the functions cite.
 pub mod Opening
-pub mod Keys

@@ -1,19 +1,27 @@
 -- Distances made less and keys given row by row: no row changes the distance of another.
 -- Assumes nothing.
-use mathlib.Core.Path.{_≡_, refl, sym, ap, subst, _∙_}
-use mathlib.Core.Logic.{_⊎_, ⊎-elim}
+use mathlib.Core.Path.{_≡_, refl, sym, _∙_, ap, subst}
+use mathlib.Core.Logic.{_≢_, _⊎_, inl, inr, ⊎-elim}
 use mathlib.Core.Bool.{Bool, true, false, not, true≢false}
 use mathlib.Core.List.{List}
 use Prim.Native.Nat.{ℕ, _+_, _≤_, _<_, min}
 use native.Mathlib.Decide.{decLt}
 use native.Mathlib.Omega.{arith}
 use lib.ListN.{set}
-use borrow.Author.Tests.{le-ltb, le-leb, lt-leb}
+use borrow.Author.Tests.{lt-ltb, le-ltb, le-leb, lt-leb}
 use Rattle.words.specs.Limits.{FAR}
 use Rattle.words.specs.Lists.{word}
-use Rattle.words.proofs.Tests.{both-pass, left-true}
-use Rattle.part_bounds.specs.Bounds.{ownerAt, nearAt, belowAt, Among, isKnown, isAsked, Looked, lowered, Apart, Closer, keyOf, Spread, GivenRow}
-use Rattle.part_bounds.proofs.Lowering.{lowered-lesser, lowered-here, lowered-honest, lowered-where}
+use Rattle.words.proofs.Tests.{both-pass, left-true, right-true}
+use Rattle.far_sums.proofs.Lowering.{lowered-lesser, lowered-here, lowered-honest, lowered-where}
+use Rattle.cells.specs.Lowered.{lowered}
+use Rattle.listing.specs.Lists.{Among}
+use Rattle.layout.specs.Layout.{partWord}
+use Rattle.part_words.specs.Part.{rowsIn}
+use Rattle.row_lists.specs.Rows.{ownerAt, childAt, belowAt, nearAt, Apart, isKnown, isAsked, AskedRow, Looked}
+use Rattle.row_distances.specs.Distances.{Closer}
+use Rattle.row_distances.proofs.Relaxing.{closer-named}
+use Rattle.part_keys.specs.Keys.{keyOf, Spread}
+use Rattle.part_bounds.specs.Bounds.{GivenRow, OpenedUp}
 
 -- rows whose distances stay give the same keys
 key-same : (mem : List ℕ) (first : ℕ) (dx dx′ : List ℕ) (i : ℕ) → nearAt mem first dx i ≡ nearAt mem first dx′ i → keyOf mem first dx i ≡ keyOf mem first dx′ i
@@ -146,6 +154,72 @@ module _ (all : Bool) {mem : List ℕ} {first : ℕ} {dx : List ℕ} {size : ℕ
           (λ owner. absurd (before-other r among owner))
           (lowered-where dx′ (ownerAt mem first i) way (ownerAt mem first r))
 
+-- The rows of two lists have given keys, and no other has one to give.
+module _ {mem : List ℕ} {first : ℕ} (all : Bool) {dx : List ℕ} {size : ℕ} {places near : List ℕ} {known : ℕ} {asked : List ℕ} {count : ℕ} (l : Looked mem first dx (isAsked all mem first dx) size places near known asked count)
+    {dx′ : List ℕ} {keys waits : List ℕ} {n : ℕ} {keys₁ waits₁ : List ℕ} {n₁ : ℕ} {keys₂ waits₂ : List ℕ} {n₂ : ℕ}
+    (s : Spread mem first dx′ (Among places known) keys waits n keys₁ waits₁ n₁) (s₂ : Spread mem first dx′ (Among asked count) keys₁ waits₁ n₁ keys₂ waits₂ n₂) where
+  -- a row that has a key to give is known, or is asked for
+  listed : (i : ℕ) → i < size → keyOf mem first dx′ i < FAR → Among places known i ⊎ Among asked count i
+  unfolding keyOf isKnown isAsked
+  listed i hi real = by (decLt (nearAt mem first dx i) FAR)
+    where
+      by : Dec (nearAt mem first dx i < FAR) → Among places known i ⊎ Among asked count i
+      by (yes some) = inl (l .knows .all i hi (lt-ltb _ FAR some))
+      by (no none) = inr (l .asks .all i hi (both-pass _ _ (le-leb FAR (nearAt mem first dx i) (omega (arith, none))) (right-true all _ (lt-ltb (belowAt mem first i) FAR (omega arith)))))
+
+  -- where not all rows are asked for, each row gives a key
+  pub spread-listed : all ≡ false → Spread mem first dx′ (GivenRow all mem first size dx) keys waits n keys₂ waits₂ n₂
+  spread-listed some =
+      record {
+        total = omega (arith, s .total, s₂ .total);
+        keys-length = s₂ .keys-length ∙ s .keys-length;
+        waits-length = s₂ .waits-length;
+        grows = omega (arith, s .grows, s₂ .grows);
+        no-more = λ q. omega (arith, s .no-more q, s₂ .no-more q);
+        bound = λ i given real. ⊎-elim
+            (λ among. omega (arith, s .bound i among real, s₂ .no-more (childAt mem first i)))
+            (λ among. s₂ .bound i among real)
+            (listed i (given .is-row) real);
+        kept = λ t h. s₂ .kept t (omega (arith, s .grows)) ∙ s .kept t h;
+        new = λ t low high. new t low high (decLt t n₁);
+        joined = λ q h. ⊎-elim
+            (λ old. ⊎-elim inl (λ (t, low, high, e). inr (t, low, omega (arith, s₂ .grows), s₂ .kept t high ∙ e)) (s .joined q old))
+            (λ (t, low, high, e). inr (t, omega (arith, s .grows), high, e))
+            (s₂ .joined q h);
+        has-key = λ t low high. has-key t low high (decLt t n₁);
+        differ = λ t u low less high. differ t u low less high (decLt t n₁) (decLt u n₁);
+      }
+    where
+      given-row : (i : ℕ) → i < size → GivenRow all mem first size dx i
+      given-row i hi = record { is-row = hi; is-given = λ every. absurd (true≢false (sym every ∙ some)) }
+
+      new : (t : ℕ) → n ≤ t → t < n₂ → Dec (t < n₁) → (i : ℕ) × GivenRow all mem first size dx i × (word waits₂ t ≡ childAt mem first i) × (FAR ≤ word keys (childAt mem first i))
+      new t low high (yes before) =
+          let (i, (u, hu, is), e, fresh) = s .new t low before in
+          (i, given-row i (omega (arith, l .knows .only u hu .0, is)), s₂ .kept t before ∙ e, fresh)
+      new t low high (no after) =
+          let (i, (u, hu, is), e, fresh) = s₂ .new t (omega (arith, after)) high in
+          (i, given-row i (omega (arith, l .asks .only u hu .0, is)), e, omega (arith, fresh, s .no-more (childAt mem first i)))
+
+      first-key : (t : ℕ) → n ≤ t → t < n₁ → word keys₁ (word waits₂ t) < FAR
+      first-key t low before = omega (arith, ap (word keys₁) (s₂ .kept t before), s .has-key t low before)
+
+      has-key : (t : ℕ) → n ≤ t → t < n₂ → Dec (t < n₁) → word keys₂ (word waits₂ t) < FAR
+      has-key t low high (yes before) = omega (arith, first-key t low before, s₂ .no-more (word waits₂ t))
+      has-key t low high (no after) = s₂ .has-key t (omega (arith, after)) high
+
+      -- those of the first list have a key when those of the second join
+      differ : (t u : ℕ) → n ≤ t → t < u → u < n₂ → Dec (t < n₁) → Dec (u < n₁) → word waits₂ t ≢ word waits₂ u
+      differ t u low less high (no after) d same = s₂ .differ t u (omega (arith, after)) less high same
+      differ t u low less high (yes first′) (yes second) same = s .differ t u low less second (sym (s₂ .kept t first′) ∙ same ∙ s₂ .kept u second)
+      differ t u low less high (yes first′) (no after) same =
+          let (i, among, e, fresh) = s₂ .new u (omega (arith, after)) high in
+          omega (arith, first-key t low first′, ap (word keys₁) (same ∙ e), fresh)
+
 -- under the names of a part's words
-pub apart-named : (mem : List ℕ) {first first′ size size′ : ℕ} → first ≡ first′ → size ≡ size′ → Apart mem first size → Apart mem first′ size′
-apart-named mem {first} {size′ = size′} f s a = subst (λ (k : ℕ). Apart mem k size′) f (subst (λ (k : ℕ). Apart mem first k) s a)
+pub opened-of : {mem : List ℕ} (p : ℕ) {first table size : ℕ} {all : Bool} {dx keys waits : List ℕ} {n : ℕ} {dx′ keys′ waits′ : List ℕ} {n′ : ℕ} → first ≡ partWord mem p 2 → table ≡ partWord mem p 3 → size ≡ rowsIn mem p
+    → Closer mem first table size dx (AskedRow all mem first size dx) dx′ → Spread mem first dx′ (GivenRow all mem first size dx) keys waits n keys′ waits′ n′ → OpenedUp mem p all dx keys waits n dx′ keys′ waits′ n′
+opened-of {mem} p {first} {all = all} {dx} {keys} {waits} {n} {dx′} {keys′} {waits′} {n′} isFirst isTable isSize c s = (
+  closer-named (λ a b. AskedRow all mem a b dx) isFirst isTable isSize c,
+  subst (λ (a : ℕ). Spread mem a dx′ (GivenRow all mem a (rowsIn mem p) dx) keys waits n keys′ waits′ n′) isFirst (subst (λ (a : ℕ). Spread mem first dx′ (GivenRow all mem first a dx) keys waits n keys′ waits′ n′) isSize s),
+)

@@ -1,2 +1,2 @@
--- Distances of a part's rows to the vertex asked at, and bounds.
+-- A part that was opened up.
 pub mod Bounds

@@ -19,7 +19,10 @@ use Rattle.parts.specs.Size.{rowVertices, sizeOf}
 use Rattle.rows.specs.Row.{rowOf, Arrives}
 use Rattle.fleet.specs.State.{State, active}
 use Rattle.image.specs.Records.{rowVertex}
-use Rattle.part_bounds.specs.Bounds.{partWord, rowsIn, belowAt, nearAt, showsOwn, isAsked, AskedRow, OwnRow, Relaxed}
+use Rattle.layout.specs.Layout.{partWord}
+use Rattle.part_words.specs.Part.{rowsIn}
+use Rattle.row_lists.specs.Rows.{belowAt, nearAt, showsOwn, isAsked, AskedRow, OwnRow}
+use Rattle.row_distances.specs.Distances.{Relaxed}
 use Rattle.van_offers.specs.Genuine.{Genuine}
 use Rattle.question.specs.Kept.{LeafRelaxed}
 use Rattle.question.proofs.Shown.{rows-read, place-read, shown-arrives, own-arrives, own-shown}

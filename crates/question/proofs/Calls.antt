@@ -21,9 +21,15 @@ use Rattle.places.specs.Place.{countsIn, vertexAddress}
 use Rattle.best_list.specs.Best.{entries, limitOf, offeredAll, InOrder}
 use Rattle.van_offers.specs.Offers.{stampIn, rowOffers}
 use Rattle.far_sums.specs.Least.{Least}
-use Rattle.part_bounds.specs.Bounds.{partWord, rowsIn, Fits, ownRows, Alone, lowered, Relaxed, OpenedUp, outOf, Nearest, farCount}
-use Rattle.part_bounds.proofs.Spreading.{far-lowered, far-most}
-use Rattle.part_bounds.proofs.Keys.{nearest-all}
+use Rattle.layout.specs.Layout.{partWord}
+use Rattle.part_words.specs.Part.{rowsIn}
+use Rattle.row_lists.specs.Rows.{Fits, ownRows}
+use Rattle.row_distances.specs.Distances.{Alone, Relaxed, outOf}
+use Rattle.cells.specs.Lowered.{lowered}
+use Rattle.part_bounds.specs.Bounds.{OpenedUp}
+use Rattle.part_keys.specs.Keys.{Nearest, farCount}
+use Rattle.part_keys.proofs.Spreading.{far-lowered, far-most}
+use Rattle.part_keys.proofs.Nearest.{nearest-all}
 use Rattle.question.specs.declared.Search.{Search}
 use Rattle.van_offers.specs.Genuine.{Genuine, listOf}
 use Rattle.question.specs.Kept.{LeafRelaxed, offersOf, LeafTaken, OwnTaken, BoundOutside, Searching, Stands, Climbs, Goes, GoesOn, Fresh}

@@ -35,8 +35,12 @@ use Rattle.best_list.specs.Best.{limitOf, offeredAll}
 use Rattle.best_list.proofs.Offers.{limit-below}
 use Rattle.places.specs.Place.{countsIn, vertexAddress}
 use Rattle.far_sums.specs.Least.{Least}
-use Rattle.part_bounds.specs.Bounds.{partWord, rowsIn, Alone, lowered, Relaxed, keyAt}
-use Rattle.part_bounds.proofs.Lowering.{lowered-length, lowered-here, lowered-found}
+use Rattle.layout.specs.Layout.{partWord}
+use Rattle.part_words.specs.Part.{rowsIn}
+use Rattle.row_distances.specs.Distances.{Alone, Relaxed}
+use Rattle.cells.specs.Lowered.{lowered}
+use Rattle.part_keys.specs.Keys.{keyAt}
+use Rattle.far_sums.proofs.Lowering.{lowered-length, lowered-here, lowered-found}
 use Rattle.van_offers.specs.Genuine.{Genuine}
 use Rattle.van_offers.proofs.Heading.{Comer, head-below, head-active}
 use Rattle.van_offers.proofs.Comers.{comers, comer-near, settled}

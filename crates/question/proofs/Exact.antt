@@ -29,7 +29,10 @@ use Rattle.rows.specs.Row.{rowOf, Arrives}
 use Rattle.rows.proofs.Bounds.{row-bound}
 use Rattle.fleet.specs.State.{State, active}
 use Rattle.image.specs.Records.{rowVertex}
-use Rattle.part_bounds.specs.Bounds.{partWord, rowsIn, ownerAt, nearAt, Closer}
+use Rattle.layout.specs.Layout.{partWord}
+use Rattle.part_words.specs.Part.{rowsIn}
+use Rattle.row_lists.specs.Rows.{ownerAt, nearAt}
+use Rattle.row_distances.specs.Distances.{Closer}
 use Rattle.van_offers.specs.Genuine.{Genuine}
 use Rattle.question.proofs.Shown.{rows-read, owner-read, entry-read, row-in, row-below, place-read, one-row, arrives-further}
 

@@ -32,7 +32,9 @@ use Rattle.places.specs.Place.{countsIn, vertexAddress}
 use Rattle.best_list.specs.Best.{offeredAll}
 use Rattle.best_list.proofs.Offers.{bestOf, offered-more}
 use Rattle.van_offers.specs.Offers.{vanOffers, rowOwner, vertexOffers, rowOffers}
-use Rattle.part_bounds.specs.Bounds.{partWord, rowsIn, showsOwn}
+use Rattle.layout.specs.Layout.{partWord}
+use Rattle.part_words.specs.Part.{rowsIn}
+use Rattle.row_lists.specs.Rows.{showsOwn}
 use Rattle.van_offers.specs.Genuine.{Genuine}
 use Rattle.van_offers.proofs.Heading.{Comer, offers-say, offers-have, offers-distinct, head-below, head-active, idle-link}
 use Rattle.van_offers.proofs.Comers.{comers, comer-says, comer-has, comer-near}

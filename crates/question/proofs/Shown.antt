@@ -40,7 +40,9 @@ use Rattle.image.proofs.Length.{image-length}
 use Rattle.image.proofs.Words.{row-word}
 use Rattle.image.proofs.Records.{head-word, part-word, vertex-word, table-word, shown-word, vertices-start, roads-start, vans-start, rows-start, rows-end}
 use Rattle.places.specs.Place.{countsIn, vertexAddress, vanAddress}
-use Rattle.part_bounds.specs.Bounds.{partWord, rowsIn, ownerAt, childAt, belowAt, showsOwn, Fits}
+use Rattle.layout.specs.Layout.{partWord}
+use Rattle.part_words.specs.Part.{rowsIn}
+use Rattle.row_lists.specs.Rows.{ownerAt, childAt, belowAt, showsOwn, Fits}
 use Rattle.van_offers.specs.Genuine.{Genuine}
 use Rattle.van_offers.proofs.Shown.{at-word, slots, vertex-read}
 

@@ -30,8 +30,14 @@ use Rattle.fleet.specs.State.{State, active}
 use Rattle.fleet.specs.Question.{Listed, comingFrom, sorted}
 use Rattle.image.specs.Records.{rowVertex}
 use Rattle.far_sums.specs.Least.{Least}
-use Rattle.part_bounds.specs.Bounds.{partWord, rowsIn, ownerAt, childAt, belowAt, nearAt, keyOf, outOf, lowered, Spread, OpenedUp, Closer, GivenRow}
-use Rattle.part_bounds.proofs.Lowering.{lowered-no-more, lowered-here, lowered-found, lowered-length}
+use Rattle.layout.specs.Layout.{partWord}
+use Rattle.part_words.specs.Part.{rowsIn}
+use Rattle.row_lists.specs.Rows.{ownerAt, childAt, belowAt, nearAt}
+use Rattle.part_keys.specs.Keys.{keyOf, Spread}
+use Rattle.row_distances.specs.Distances.{outOf, Closer}
+use Rattle.cells.specs.Lowered.{lowered}
+use Rattle.part_bounds.specs.Bounds.{OpenedUp, GivenRow}
+use Rattle.far_sums.proofs.Lowering.{lowered-no-more, lowered-here, lowered-found, lowered-length}
 use Rattle.van_offers.specs.Genuine.{Genuine}
 use Rattle.question.specs.Kept.{BoundOutside, Coming, Covered, Waits, Searching, isOffered}
 use Rattle.question.proofs.Shown.{parent-read, rows-read, owner-read, child-at-read, below-read, place-read, row-in, child-of-border, row-below}

@@ -21,7 +21,11 @@ use Rattle.best_list.specs.Best.{offeredAll, InOrder}
 use Rattle.van_offers.specs.Offers.{rowOffers}
 use Rattle.van_offers.specs.Genuine.{Genuine, listOf}
 use Rattle.far_sums.specs.Least.{Least}
-use Rattle.part_bounds.specs.Bounds.{partWord, rowsIn, Fits, ownRows, OwnRow, Alone, Closer, Relaxed, outOf, farCount}
+use Rattle.layout.specs.Layout.{partWord}
+use Rattle.part_words.specs.Part.{rowsIn}
+use Rattle.row_lists.specs.Rows.{Fits, ownRows, OwnRow}
+use Rattle.row_distances.specs.Distances.{Alone, Closer, Relaxed, outOf}
+use Rattle.part_keys.specs.Keys.{farCount}
 use Rattle.question.specs.declared.Search.{Search}
 
 -- The functions of the search, on any words.

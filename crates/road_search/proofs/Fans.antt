@@ -10,7 +10,8 @@ use lib.ListN.{length}
 use Rattle.words.specs.Lists.{word}
 use Rattle.roads.specs.Map.{Road, Map}
 use Rattle.roads.proofs.Trail.{Net}
-use Rattle.road_search.specs.Layout.{shownRoad, shownRoads, firstOut, nextOut, outOf, LaidRoad, Laid, Fan}
+use Rattle.road_relax.specs.Relaxing.{shownRoad, shownRoads, Fan}
+use Rattle.road_search.specs.Layout.{firstOut, nextOut, roadsOut, LaidRoad, LaidMap}
 
 -- A road of a list has a place in it, and a place in the list has its road.
 
@@ -57,7 +58,7 @@ pub record Found (mem : List ℕ) (roads u first next : ℕ) : Type 0 where
   pub fits : roads + 4 * next ≤ length mem
   pub fan : Fan mem (roads + 4 * first) (next - first) u
 
-module _ {mem : List ℕ} {vertices n roads count : ℕ} (laid : Laid mem vertices n roads count) where
+module _ {mem : List ℕ} {vertices n roads count : ℕ} (laid : LaidMap mem vertices n roads count) where
   pub laid-net : Net (shownMap mem n roads count)
   laid-net =
       record {
@@ -127,8 +128,8 @@ module _ {mem : List ℕ} {vertices n roads count : ℕ} (laid : Laid mem vertic
       }
 
   -- the roads out of u are roads of the map
-  pub out-part : (u : ℕ) → u < n → (r : Road) → List·Memᴰ r (outOf mem vertices n roads count u) → List·Memᴰ r (shownRoads mem roads count)
-  unfolding outOf
+  pub out-part : (u : ℕ) → u < n → (r : Road) → List·Memᴰ r (roadsOut mem vertices n roads count u) → List·Memᴰ r (shownRoads mem roads count)
+  unfolding roadsOut
   out-part u there r h =
       let limit = next-limit u there in
       let first = firstOut mem vertices u in
@@ -137,8 +138,8 @@ module _ {mem : List ℕ} {vertices n roads count : ℕ} (laid : Laid mem vertic
       rw (at .is, same) (place-road mem roads count (first + at .place) (omega (arith, at .within)))
 
   -- and all that leave u
-  pub out-whole : (u : ℕ) → u < n → (r : Road) → List·Memᴰ r (shownRoads mem roads count) → r .from ≡ u → List·Memᴰ r (outOf mem vertices n roads count u)
-  unfolding outOf
+  pub out-whole : (u : ℕ) → u < n → (r : Road) → List·Memᴰ r (shownRoads mem roads count) → r .from ≡ u → List·Memᴰ r (roadsOut mem vertices n roads count u)
+  unfolding roadsOut
   out-whole u there r h leaves =
       let at = road-place mem roads count h in
       let j = at .place in

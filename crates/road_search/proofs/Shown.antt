@@ -11,7 +11,8 @@ use lib.ListN.{length, getD}
 use Rattle.words.specs.Lists.{word}
 use Rattle.roads.specs.Map.{Road, Map, roadCount, noRoad, roadAt}
 use Rattle.roads.proofs.Trail.{Net}
-use Rattle.road_search.specs.Layout.{shownRoad, shownRoads, firstOut, lowerRoads, LaidRoad, Laid, Shown}
+use Rattle.road_relax.specs.Relaxing.{shownRoad, shownRoads}
+use Rattle.road_search.specs.Layout.{firstOut, lowerRoads, LaidRoad, LaidMap, Shown}
 use Rattle.road_search.proofs.Fans.{place-road}
 
 -- the vertex that road j of a list leaves
@@ -106,7 +107,7 @@ module _ (m : Map) (net : Net m) (rising : Rising (m .roads)) {mem : List ℕ} {
       from-below : from < m .vertices
       from-below = net .from _ on
 
-  pub shown-laid : Laid mem vertices (m .vertices) roads (roadCount m)
+  pub shown-laid : LaidMap mem vertices (m .vertices) roads (roadCount m)
   shown-laid =
       record {
         few = net .few;

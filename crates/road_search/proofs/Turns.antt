@@ -20,8 +20,10 @@ use Rattle.roads.specs.Dist.{relax, relaxAll, dist}
 use Rattle.roads.proofs.Trail.{Net}
 use Rattle.roads.proofs.Labels.{label, Told, Honest, told-most, relax-length, relax-lower, relaxAll-length, relaxAll-lower, relaxAll-end, relaxAll-honest}
 use Rattle.roads.proofs.Settled.{Settled, settled-dist}
-use Rattle.road_search.specs.Waiting.{begun, offer, wake, wakeAll, Picked}
-use Rattle.road_search.proofs.Model.{getD-there, taken, kept}
+use Rattle.road_search.specs.Start.{begun}
+use Rattle.road_relax.specs.Relaxing.{offer, wake, wakeAll}
+use Rattle.waiting.specs.Waiting.{Picked}
+use Rattle.road_relax.proofs.Relaxed.{getD-there, taken, kept}
 
 -- The labels to start from.
 

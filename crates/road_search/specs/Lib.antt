@@ -1,3 +1,3 @@
--- What the contracts cite: roads in the memory, and the waiting vertices of a search.
+-- What the contracts cite: roads in the memory, and where a search starts.
 pub mod Layout
-pub mod Waiting
+pub mod Start

@@ -3,7 +3,7 @@ use mathlib.Core.Path.{_≡_}
 use mathlib.Core.Bool.{Bool, true, false}
 use mathlib.Core.List.{List}
 use Prim.Native.Nat.{ℕ, _<_}
-use Rattle.road_search.specs.Layout.{Laid, Measured}
+use Rattle.road_search.specs.Layout.{LaidMap, Measured}
 
 -- the test tells whether it is so
 pub record Decides (r : Bool) (So : Type 0) : Type 0 where
@@ -16,6 +16,6 @@ pub record Each (So : ℕ → Type 0) (n : ℕ) : Type 0 where
 
 -- the search ran exactly if the words are laid out for it and a is a vertex; the labels are then the distances, and else as they were
 pub record Answered (mem : List ℕ) (vertices n roads count a : ℕ) (labels after : List ℕ) (r : Bool) : Type 0 where
-  pub ran : Decides r (Laid mem vertices n roads count × (a < n))
+  pub ran : Decides r (LaidMap mem vertices n roads count × (a < n))
   pub measured : r ≡ true → Measured mem n roads count a after
   pub kept : r ≡ false → after ≡ labels

@@ -3,25 +3,29 @@
 ghost use mathlib.Core.Path.{_≡_};
 ghost use Prim.Native.Nat.{_+_, _*_, _≤_, _<_};
 ghost use lib.ListN.{length};
-ghost use Rattle.road_search.specs.Layout.{LaidVertex, LaidRoad, Laid, shownRoad};
+ghost use Rattle.layout.specs.Layout.{vertex·words, road·words};
+ghost use Rattle.road_search.specs.Layout.{LaidVertex, LaidRoad, LaidMap};
+ghost use Rattle.road_relax.specs.Relaxing.{shownRoad};
 ghost use Rattle.road_search_c.specs.Answer.{Decides, Each, Answered};
+use cells::wide;
+use layout::RoadRecord;
+use layout::VertexRecord;
 use road_search::distances;
-use road_search::index;
 
 // Whether vertex `v` is laid out as a search needs it.
 fn vertex_laid(mem: &[u32], vertices_at: usize, n: usize, count: usize, v: usize) -> bool
-    requires { ⌜ «vertices_at» + 8 * n ≤ length (now mem) ⌝ }
+    requires { ⌜ «vertices_at» + vertex·words * n ≤ length (now mem) ⌝ }
     requires { ⌜ v < n ⌝ }
     ensures { λ r. ⌜ Decides r (LaidVertex (now (mem .entry)) «vertices_at» n count v) ⌝ }
 {
-    let first = index(mem[vertices_at + 8 * v + 2]);
+    let first = wide(mem[vertices_at + VertexRecord::WORDS * v + VertexRecord::ROADS]);
     if count < first {
         return false;
     }
     if n <= v + 1 {
         return true;
     }
-    if index(mem[vertices_at + 8 * (v + 1) + 2]) < first {
+    if wide(mem[vertices_at + VertexRecord::WORDS * (v + 1) + VertexRecord::ROADS]) < first {
         return false;
     }
     true
@@ -29,7 +33,7 @@ fn vertex_laid(mem: &[u32], vertices_at: usize, n: usize, count: usize, v: usize
 
 // Whether all vertices are.
 fn vertices_laid(mem: &[u32], vertices_at: usize, n: usize, count: usize) -> bool
-    requires { ⌜ «vertices_at» + 8 * n ≤ length (now mem) ⌝ }
+    requires { ⌜ «vertices_at» + vertex·words * n ≤ length (now mem) ⌝ }
     ensures { λ r. ⌜ Decides r (Each (LaidVertex (now (mem .entry)) «vertices_at» n count) n) ⌝ }
 {
     let mut v = 0;
@@ -44,28 +48,28 @@ fn vertices_laid(mem: &[u32], vertices_at: usize, n: usize, count: usize) -> boo
 
 // Whether road `j` is.
 fn road_laid(mem: &[u32], vertices_at: usize, n: usize, roads_at: usize, j: usize) -> bool
-    requires { ⌜ «vertices_at» + 8 * n ≤ length (now mem) ⌝ }
-    requires { ⌜ «roads_at» + 4 * j + 4 ≤ length (now mem) ⌝ }
-    ensures { λ r. ⌜ Decides r (LaidRoad (now (mem .entry)) «vertices_at» n j (shownRoad (now (mem .entry)) («roads_at» + 4 * j))) ⌝ }
+    requires { ⌜ «vertices_at» + vertex·words * n ≤ length (now mem) ⌝ }
+    requires { ⌜ «roads_at» + road·words * j + 4 ≤ length (now mem) ⌝ }
+    ensures { λ r. ⌜ Decides r (LaidRoad (now (mem .entry)) «vertices_at» n j (shownRoad (now (mem .entry)) («roads_at» + road·words * j))) ⌝ }
 {
-    let at = roads_at + 4 * j;
-    let from = index(mem[at]);
+    let at = roads_at + RoadRecord::WORDS * j;
+    let from = wide(mem[at]);
     if n <= from {
         return false;
     }
-    if n <= index(mem[at + 1]) {
+    if n <= wide(mem[at + RoadRecord::TO]) {
         return false;
     }
-    if 1000000 < mem[at + 2] {
+    if 1000000 < mem[at + RoadRecord::WEIGHT] {
         return false;
     }
-    if j < index(mem[vertices_at + 8 * from + 2]) {
+    if j < wide(mem[vertices_at + VertexRecord::WORDS * from + VertexRecord::ROADS]) {
         return false;
     }
     if n <= from + 1 {
         return true;
     }
-    if index(mem[vertices_at + 8 * (from + 1) + 2]) <= j {
+    if wide(mem[vertices_at + VertexRecord::WORDS * (from + 1) + VertexRecord::ROADS]) <= j {
         return false;
     }
     true
@@ -73,9 +77,9 @@ fn road_laid(mem: &[u32], vertices_at: usize, n: usize, roads_at: usize, j: usiz
 
 // Whether all roads are.
 fn roads_laid(mem: &[u32], vertices_at: usize, n: usize, roads_at: usize, count: usize) -> bool
-    requires { ⌜ «vertices_at» + 8 * n ≤ length (now mem) ⌝ }
-    requires { ⌜ «roads_at» + 4 * count ≤ length (now mem) ⌝ }
-    ensures { λ r. ⌜ Decides r (Each (λ j. LaidRoad (now (mem .entry)) «vertices_at» n j (shownRoad (now (mem .entry)) («roads_at» + 4 * j))) count) ⌝ }
+    requires { ⌜ «vertices_at» + vertex·words * n ≤ length (now mem) ⌝ }
+    requires { ⌜ «roads_at» + road·words * count ≤ length (now mem) ⌝ }
+    ensures { λ r. ⌜ Decides r (Each (λ j. LaidRoad (now (mem .entry)) «vertices_at» n j (shownRoad (now (mem .entry)) («roads_at» + road·words * j))) count) ⌝ }
 {
     let mut j = 0;
     while j < count {
@@ -102,7 +106,7 @@ fn fits(len: usize, at: usize, size: usize) -> bool
 
 // Whether the words show roads as a search needs them.
 fn laid(mem: &[u32], vertices_at: usize, n: usize, roads_at: usize, count: usize) -> bool
-    ensures { λ r. ⌜ Decides r (Laid (now (mem .entry)) «vertices_at» n «roads_at» count) ⌝ }
+    ensures { λ r. ⌜ Decides r (LaidMap (now (mem .entry)) «vertices_at» n «roads_at» count) ⌝ }
 {
     if 4096 < n {
         return false;

@@ -4,7 +4,7 @@ use mathlib.Core.Path.{_≡_, refl, sym, _∙_, ap, subst, subst⁻¹}
 use mathlib.Core.Logic.{inl}
 use mathlib.Core.Bool.{Bool, true, false, cond, true≢false}
 use mathlib.Core.List.{List, [], _∷_, map, List·Memᴰ, List·Memᴰ·head, List·Memᴰ·tail}
-use Prim.Native.Nat.{ℕ, zero, suc, _+_, _*_, _≤_, _<_}
+use Prim.Native.Nat.{ℕ, zero, suc, _+_, _*_, _≤_, _<_, min}
 use native.Mathlib.Decide.{decLt}
 use native.Mathlib.Omega.{arith}
 use lib.ListN.{length}
@@ -18,7 +18,9 @@ use Rattle.rows.specs.declared.Row.{Row}
 use Rattle.rows.specs.Row.{emptyRow, nearer}
 use Rattle.rows.specs.Refresh.{onward}
 use Rattle.row_changes.proofs.Order.{met, met-turn, met-kept}
-use Rattle.row_refresh.specs.Model.{rowIn, shown, sourceIn, showsIn, showing, filled, keyed, farKey, unkeyed, sourceKey, lesser, gathered, renewed, remade, departed}
+use Rattle.row_words.specs.Words.{rowIn, shown, sourceIn}
+use Rattle.row_refresh.specs.Model.{showsIn, showing, departed}
+use Rattle.row_departures.specs.Departure.{filled, keyed, farKey, unkeyed, sourceKey, gathered, renewed, remade}
 use Rattle.row_memory.specs.Kept.{Kept}
 use Rattle.row_memory.proofs.Offered.{Plain, onward-plain, nearer-plain, nearer-empty, shown-row, OneRow, kept-self, kept-trans, one-shown, one-self}
 use Rattle.row_memory.proofs.Keys.{KeyOf, key-none, key-nearer}
@@ -51,10 +53,10 @@ module _ (rows size table : ℕ) (from : ℕ → Row) (far : ℕ → ℕ → ℕ
     unfolding gathered
     gathered-at [] within row key k = k
     gathered-at (i ∷ numbers) within row key k =
-        subst⁻¹ (λ (n : ℕ). KeyOf (met (seen j) (seen j) (λ n. true) row (i ∷ numbers)) (gathered (map (sourceKey first rows) numbers) (map (λ i. size * i) numbers) after (table + j) (lesser key n))) same
-        (subst (λ (r : Row). KeyOf r (gathered (map (sourceKey first rows) numbers) (map (λ i. size * i) numbers) after (table + j) (lesser key (keyed (from i) + far i j * 65536))))
+        subst⁻¹ (λ (n : ℕ). KeyOf (met (seen j) (seen j) (λ n. true) row (i ∷ numbers)) (gathered (map (sourceKey first rows) numbers) (map (λ i. size * i) numbers) after (table + j) (min key n))) same
+        (subst (λ (r : Row). KeyOf r (gathered (map (sourceKey first rows) numbers) (map (λ i. size * i) numbers) after (table + j) (min key (keyed (from i) + far i j * 65536))))
         (met-turn (seen j) (seen j) (λ n. true) row i numbers)
-        (gathered-at numbers (λ n h. within n (List·Memᴰ·tail h)) (nearer (seen j i) row) (lesser key (keyed (from i) + far i j * 65536)) (key-nearer (from i) row (far i j) key (fits i hi) k)))
+        (gathered-at numbers (λ n h. within n (List·Memᴰ·tail h)) (nearer (seen j i) row) (min key (keyed (from i) + far i j * 65536)) (key-nearer (from i) row (far i j) key (fits i hi) k)))
       where
         hi : i < size
         hi = within i (List·Memᴰ·head refl)

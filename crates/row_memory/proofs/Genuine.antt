@@ -34,7 +34,10 @@ use Rattle.row_changes.specs.Switch.{Switched}
 use Rattle.row_changes.specs.Source.{source, candidate, rowAnew, rowMet}
 use Rattle.row_changes.proofs.Best.{row-shown, row-closed}
 use Rattle.row_changes.proofs.Refresh.{row-met, row-left}
-use Rattle.row_refresh.specs.Model.{rowIn, sourceIn, showing, led, rowsHere, fits, changed, touches, refreshed, touched}
+use Rattle.row_words.specs.Words.{rowIn, sourceIn}
+use Rattle.row_refresh.specs.Model.{showing, changed, touches, refreshed, touched}
+use Rattle.row_arrivals.specs.Arrival.{led}
+use Rattle.part_words.specs.Part.{rowsIn, fits}
 use Rattle.row_memory.specs.Kept.{Kept}
 use Rattle.row_memory.specs.Laid.{Few, LaidForRows, RowsShow}
 use Rattle.row_memory.proofs.Apart.{rows-last, table-last, table-before, part-before, itself-before, early, beside}
@@ -149,11 +152,11 @@ module _ (m : Map) (net : Net m) (tree : Tree m) (p : ℕ) (hp : p < partCount m
   -- v became active or inactive
   module _ (v : ℕ) (hv : v < m .vertices) (before after : ℕ → Bool) (few : Few m) (mem : List ℕ) (laid : LaidForRows m after mem) (later : LaterShow after mem)
       (shows : RowsShow m before mem p) where
-    size-here : rowsHere mem p ≡ sizeOf m p
-    size-here = rw (laid .size p hp) (rw (le-ltb 128 (sizeOf m p) (few .rows p hp)))
+    size-here : rowsIn mem p ≡ sizeOf m p
+    size-here = omega (arith, laid .size p hp, few .rows p hp)
 
     -- the part's record leads to its rows and its table
-    within-memory : fits mem (word mem (partAt p + part·rows)) (word mem (partAt p + part·table)) (rowsHere mem p) ≡ true
+    within-memory : fits mem (word mem (partAt p + part·rows)) (word mem (partAt p + part·table)) (rowsIn mem p) ≡ true
     within-memory =
         (λ t. fits mem (laid .rows p hp t) (laid .table p hp t) (size-here t))
         ∙ rw (

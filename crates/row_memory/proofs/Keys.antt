@@ -3,7 +3,7 @@
 use mathlib.Core.Path.{_≡_, refl, sym, _∙_, ap, subst⁻¹}
 use mathlib.Core.Logic.{inl, inr}
 use mathlib.Core.Bool.{cond, _&&_}
-use Prim.Native.Nat.{ℕ, _+_, _*_, _/_, _%_, _≤_, _<_}
+use Prim.Native.Nat.{ℕ, _+_, _*_, _/_, _%_, _≤_, _<_, min}
 use native.Mathlib.Decide.{ℕ-discrete, decLt}
 use native.Mathlib.Omega.{arith}
 use lib.Dec.{eqb, ltb}
@@ -13,7 +13,7 @@ use Rattle.words.proofs.Tests.{PairBefore, pair-if}
 use Rattle.rows.specs.declared.Row.{Row}
 use Rattle.rows.specs.Row.{emptyRow, nearer}
 use Rattle.rows.specs.Refresh.{onward}
-use Rattle.row_refresh.specs.Model.{keyed, farKey, unkeyed, lesser}
+use Rattle.row_departures.specs.Departure.{keyed, farKey, unkeyed}
 use Rattle.row_memory.proofs.Offered.{Plain, nearer-empty}
 
 -- the key is of this row
@@ -79,8 +79,8 @@ key-plain row key k = by (decLt key farKey)
     by (no far) = inl (sym (k .shows) ∙ ap unkeyed (let e : key ≡ farKey = omega (arith, far, k .most) in e) ∙ far-row)
 
 -- a source seen d further on
-pub key-nearer : (source row : Row) (d key : ℕ) → source .vertex < 65536 → KeyOf row key → KeyOf (nearer (onward source d) row) (lesser key (keyed source + d * 65536))
-unfolding onward lesser
+pub key-nearer : (source row : Row) (d key : ℕ) → source .vertex < 65536 → KeyOf row key → KeyOf (nearer (onward source d) row) (min key (keyed source + d * 65536))
+unfolding onward
 key-nearer source row d key small k = by (decLt (source .distance + d) FAR)
   where
     v : ℕ
@@ -104,11 +104,17 @@ key-nearer source row d key small k = by (decLt (source .distance + d) FAR)
     taken near less (no far) =
         ap (nearer (record { vertex = v; distance = x })) (sym (k .shows) ∙ ap unkeyed (let e : key ≡ farKey = omega (arith, far, k .most) in e) ∙ far-row) ∙ first-of-none v x key small near
 
-    which : x < FAR → Dec (seen < key) → KeyOf (nearer (record { vertex = v; distance = x }) row) (cond (ltb seen key) seen key)
+    lesser : seen < key → min key seen ≡ seen
+    lesser less = omega arith
+
+    no-less : key ≤ seen → min key seen ≡ key
+    no-less more = omega arith
+
+    which : x < FAR → Dec (seen < key) → KeyOf (nearer (record { vertex = v; distance = x }) row) (min key seen)
     which near (yes less) =
-        rw (lt-ltb seen key less) (record { most = omega (arith, k .most); shows = as-row (omega (arith, k .most)) ∙ sym (taken near less (decLt key farKey)) })
+        rw (lesser less) (record { most = omega (arith, k .most); shows = as-row (omega (arith, k .most)) ∙ sym (taken near less (decLt key farKey)) })
     which near (no more) =
-        rw (le-ltb seen key (omega (arith, more)))
+        rw (no-less (omega (arith, more)))
         (record {
           most = k .most;
           shows = k .shows ∙ sym (ap (nearer (record { vertex = v; distance = x })) stands ∙ later v x key small (omega (arith, same, more)) ∙ sym stands);
@@ -117,8 +123,8 @@ key-nearer source row d key small k = by (decLt (source .distance + d) FAR)
         stands : row ≡ seenBy key
         stands = sym (k .shows) ∙ near-row key (omega (arith, same, more))
 
-    by : Dec (source .distance + d < FAR) → KeyOf (nearer (cond (ltb (source .distance + d) FAR) (record { vertex = v; distance = x }) emptyRow) row) (cond (ltb seen key) seen key)
+    by : Dec (source .distance + d < FAR) → KeyOf (nearer (cond (ltb (source .distance + d) FAR) (record { vertex = v; distance = x }) emptyRow) row) (min key seen)
     by (yes near) = rw (lt-ltb (source .distance + d) FAR near) (which near (decLt seen key))
     by (no far) =
-        rw (le-ltb (source .distance + d) FAR (omega (arith, far)), le-ltb seen key (omega (arith, far, same, k .most)))
+        rw (le-ltb (source .distance + d) FAR (omega (arith, far)), no-less (omega (arith, far, same, k .most)))
         (record { most = k .most; shows = k .shows ∙ sym (nearer-empty row (key-plain row key k)) })

@@ -16,7 +16,8 @@ use Rattle.rows.specs.declared.Row.{Row}
 use Rattle.rows.specs.Row.{emptyRow, nearer}
 use Rattle.rows.specs.Refresh.{onward}
 use Rattle.rows.proofs.Order.{nearer-is}
-use Rattle.row_refresh.specs.Model.{rowIn, shown, improves, offeredTo, offered}
+use Rattle.row_words.specs.Words.{rowIn, shown}
+use Rattle.row_arrivals.specs.Arrival.{improves, offeredTo, offered}
 use Rattle.row_memory.specs.Kept.{Kept}
 
 -- a row is empty or shows a vertex that reaches

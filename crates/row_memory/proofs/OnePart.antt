@@ -18,8 +18,10 @@ use Rattle.rows.specs.Row.{comesBefore, nearer}
 use Rattle.rows.specs.Refresh.{onward}
 use Rattle.rows.proofs.Order.{RowLe, le-trans, nearer-is}
 use Rattle.row_changes.proofs.Order.{onward-le, onward-twice, nearer-kept, not-before, met, met-turn, met-kept, met-again}
-use Rattle.row_refresh.specs.Model.{rowIn, sourceIn, offered, spread, isNews, met as metIn, arrived, anyNews, showsIn, showing, lead, led}
-use Rattle.row_refresh.proofs.Chain.{lead-within}
+use Rattle.row_words.specs.Words.{rowIn, sourceIn}
+use Rattle.row_arrivals.specs.Arrival.{offered, spread, isNews, met as metIn, arrived, anyNews, lead, led}
+use Rattle.row_refresh.specs.Model.{showsIn, showing}
+use Rattle.row_arrivals.proofs.Sources.{lead-within}
 use Rattle.row_memory.specs.Kept.{Kept}
 use Rattle.row_memory.proofs.Offered.{Plain, onward-plain, nearer-plain, offered-row, OneRow, kept-self, kept-trans, one-offered}
 

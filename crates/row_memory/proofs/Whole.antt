@@ -29,7 +29,8 @@ use Rattle.image.specs.Records.{rowVertex}
 use Rattle.image.proofs.Length.{image-length}
 use Rattle.image.proofs.Records.{vertices-start, roads-start, vans-start, tables-start, rows-start, rows-end, head-word, part-word, vertex-word, table-word, shown-word, Address, in-head, in-parts, in-vertices, in-roads, in-vans, in-tables, in-rows, image-by-words}
 use Rattle.row_changes.specs.Switch.{Switched}
-use Rattle.row_refresh.specs.Model.{rowIn, shown, refreshedUp, vertexAt, ownRow, switched}
+use Rattle.row_words.specs.Words.{rowIn, shown}
+use Rattle.row_refresh.specs.Model.{refreshedUp, vertexAt, ownRow, switched}
 use Rattle.row_memory.specs.Old.{RowsOld}
 use Rattle.row_memory.specs.Laid.{Few, LaidForRows, RowsShow}
 use Rattle.row_memory.specs.Refreshed.{Refreshed}

@@ -15,7 +15,7 @@ use Rattle.rows.specs.Row.{itself, rowOf}
 use Rattle.image.specs.Places.{rowsAt, itselfAt, tableOf, firstRowOf}
 use Rattle.image.specs.Image.{rowBelow}
 use Rattle.image.specs.Records.{rowVertex}
-use Rattle.row_refresh.specs.Model.{rowIn}
+use Rattle.row_words.specs.Words.{rowIn}
 
 -- no part has more rows, and the map no more vertices, than a sound map allows
 pub record Few (m : Map) : Type 0 where

@@ -1,3 +1,2 @@
--- Laws that the proofs and the crates above cite.
+-- Laws that the functions and the crates above cite.
 pub mod Chain
-pub mod Listing

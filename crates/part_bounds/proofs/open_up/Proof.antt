@@ -1,111 +1,85 @@
 -- `open_up` gives a part's rows their distances, and its children their keys.
 -- Assumes nothing.
-use mathlib.Core.Path.{_≡_, sym, ap, subst, _∙_}
+use mathlib.Core.Path.{sym, ap}
 use mathlib.Core.Logic.{inl, inr}
-use Prim.Native.Nat.{ℕ, _^_, _≤_, _<_}
 use native.Mathlib.Omega.{arith}
-use Rattle.part_bounds.specs.Bounds.{partWord, rowsIn, Fits, farCount}
-use Rattle.part_bounds.proofs.Ways.{square-fits, rows-inside, table-inside}
-use Rattle.part_bounds.proofs.Relaxing.{closer-asked}
-use Rattle.part_bounds.proofs.Spreading.{spread-listed, opened-of, opened-named}
-use Rattle.part_bounds.proofs.Opening.{spread-kept, spread-from, not-true, not-false, known-kept, spread-asked, apart-named}
+use Rattle.part_words.specs.Part.{PartRead}
+use Rattle.part_words.proofs.Fits.{read-of, read-inside}
+use Rattle.row_lists.proofs.Rows.{fits-out, apart-named}
+use Rattle.row_distances.proofs.Relaxing.{closer-asked}
+use Rattle.part_keys.specs.Keys.{farCount}
+use Rattle.part_bounds.proofs.Opening.{spread-kept, spread-from, not-true, not-false, known-kept, spread-asked, spread-listed, opened-of}
 use borrow.Author.Needs.{needs}
 use Rattle.part_bounds.proofs.open_up.Statement.{statement}
 use Rattle.part_bounds.proofs.open_up.Tie as tie
 
 -- what was read of the part
-small : (c : tie.After-wide3) → (c .before .before .wide2 .result < 2 ^ 32) × (c .wide3 .result < 2 ^ 32) × (c .before .before .before .before .rows-in .result ≤ 128)
-small c = (search needs, search needs, c .before .before .before .before .rows-in .ensures .1)
-
-first-is : (c : tie.After-wide3) → c .before .before .wide2 .result ≡ partWord (c .before .before .before .before .before .before .before .before .args .mem .now) (c .before .before .before .before .before .wide .result) 2
-first-is c = c .before .before .wide2 .ensures ∙ c .before .before .before .part-word .ensures
-
-table-is : (c : tie.After-wide3) → c .wide3 .result ≡ partWord (c .before .before .before .before .before .before .before .before .args .mem .now) (c .before .before .before .before .before .wide .result) 3
-table-is c = c .wide3 .ensures ∙ c .before .part-word2 .ensures
-
-size-is : (c : tie.After-wide3) → c .before .before .before .before .rows-in .result ≡ rowsIn (c .before .before .before .before .before .before .before .before .args .mem .now) (c .before .before .before .before .before .wide .result)
-size-is c = c .before .before .before .before .rows-in .ensures .0
-
-same-part : (c : tie.After-wide3) → Fits (c .before .before .before .before .before .before .before .before .args .mem .now) (c .before .before .before .before .before .before .before .before .args .part) → Fits (c .before .before .before .before .before .before .before .before .args .mem .now) (c .before .before .before .before .before .wide .result)
-same-part c = subst (Fits (c .before .before .before .before .before .before .before .before .args .mem .now)) (sym (c .before .before .before .before .before .wide .ensures))
-
-returns : tie.Need-returns
-returns c = (omega arith, λ f. absurd (rows-inside (c .before .before .before .before .before .before .before .before .before .args .mem .now) (c .before .before .before .before .before .before .wide .result) (first-is (c .before)) (table-is (c .before)) (size-is (c .before)) (same-part (c .before) f) (c .if1 .taken)))
-
-mul-if2 : tie.Need-mul-if2
-mul-if2 c = omega (arith, square-fits (c .before .before .before .before .before .rows-in .result) (small (c .before) .2))
-
-add-if2 : tie.Need-add-if2
-add-if2 c = omega (arith, square-fits (c .before .before .before .before .before .rows-in .result) (small (c .before) .2), small (c .before))
-
-returns-2 : tie.Need-returns-2
-returns-2 c = (omega arith, λ f. absurd (table-inside (c .before .before .before .before .before .before .before .before .before .before .args .mem .now) (c .before .before .before .before .before .before .before .wide .result) (first-is (c .before .before)) (table-is (c .before .before)) (size-is (c .before .before)) (same-part (c .before .before) f) (c .if2 .taken)))
+read : (c : tie.After-part-rows)
+    → let args′ = c .before .before .before .before .args in
+    let part = c .part-rows .result in
+    PartRead (args′ .mem .now) (args′ .part) (part .size) (part .first) (part .table) (part .within)
+read c = read-of (c .part-rows .ensures) (c .before .wide .ensures)
 
 look-requires : tie.Need-look-requires
-look-requires c κs = (small (c .before .before .before .before .before .before) .0, small (c .before .before .before .before .before .before) .2, c .before .before .before .before .before .if1 .left, c .before .before .look-arg2 .given .0 .1, c .before .look-arg3 .given .0 .1, c .look-arg4 .given .0 .1)
+look-requires c κs =
+    let part = read (c .before .before .before .before .before) in
+    let inside = read-inside part (c .before .before .before .before .if1 .taken) in
+    (part .first-small, part .few, inside .0, c .before .before .look-arg2 .given .0 .1, c .before .look-arg3 .given .0 .1, c .look-arg4 .given .0 .1)
 
 spread-known-requires : tie.Need-spread-known-requires
 spread-known-requires c κs =
-    let few = small (c .before .before .before .before .before .before .before .before .before .before .before .before) in
-    let l = c .before .before .before .before .before .look .ensures in
-    (few .0, few .2, c .before .before .before .before .before .before .before .before .before .before .before .if1 .left, c .before .before .before .before .before .before .before .before .before .before .before .before .before .before .before .before .before .before .before .before .pre, c .spread-known-arg4 .given .0 .1, λ t h. l .knows .only t h .0, (c .before .before .before .before .before .before .before .before .before .before .before .before .before .before .before .before .before .before .before .before .args .dx .now, l .nears))
+    let start = c .before .before .before .before .before .before .before .before .before .before .before .before .before .before .before in
+    let part = read (c .before .before .before .before .before .before .before .before .before .before .before) in
+    let inside = read-inside part (c .before .before .before .before .before .before .before .before .before .before .if1 .taken) in
+    let listed = c .before .before .before .before .before .look .ensures in
+    (part .first-small, part .few, inside .0, start .pre, c .spread-known-arg4 .given .0 .1, λ t h. listed .knows .only t h .0, (start .args .dx .now, listed .nears))
 
 relax-spread-requires : tie.Need-relax-spread-requires
 relax-spread-requires c κs =
-    let few = small (c .before .before .before .before .before .before .before .before .before .before .before .before .before .before) in
-    let l = c .before .before .before .before .before .before .before .look .ensures in (
-      few .0,
-      few .1,
-      few .2,
-      c .before .before .before .before .before .before .before .before .before .before .before .before .before .if1 .left,
-      c .before .before .before .before .before .before .before .before .before .before .before .before .if2 .left,
-      (c .before .before .before .before .before .before .before .before .before .before .before .before .before .before .before .before .before .before .before .before .before .before .args .all, l),
-      elim (c .before .before .before .before .before .before .if3 .came) [
-        | inl t ↦ rw (t .6, t .8) (omega (arith, t .5 .ensures (c .before .before .before .before .before .before .before .before .before .before .before .before .before .before .before .before .before .before .before .before .before .before .args .dx .now) (l .nears) .total, c .before .before .before .before .before .before .before .before .before .before .before .before .before .before .before .before .before .before .before .before .before .before .pre))
-        | inr t ↦ rw (t .1, t .3) (c .before .before .before .before .before .before .before .before .before .before .before .before .before .before .before .before .before .before .before .before .before .before .pre)
+    let start = c .before .before .before .before .before .before .before .before .before .before .before .before .before .before .before .before .before in
+    let part = read (c .before .before .before .before .before .before .before .before .before .before .before .before .before) in
+    let inside = read-inside part (c .before .before .before .before .before .before .before .before .before .before .before .before .if1 .taken) in
+    let listed = c .before .before .before .before .before .before .before .look .ensures in (
+      part .first-small,
+      part .table-small,
+      part .few,
+      inside .0,
+      inside .1,
+      (start .args .all, listed),
+      elim (c .before .before .before .before .before .before .if2 .came) [
+        | inl t ↦ rw (t .6, t .8) (omega (arith, t .5 .ensures (start .args .dx .now) (listed .nears) .total, start .pre))
+        | inr t ↦ rw (t .1, t .3) (start .pre)
       ],
       c .relax-spread-arg6 .given .0 .1,
     )
 
-returns-3 : tie.Need-returns-3
-returns-3 c =
-    let mem = c .before .before .before .before .before .before .before .before .before .before .before .before .before .before .before .before .before .before .before .before .before .before .before .before .before .args .mem .now in
-    let all = c .before .before .before .before .before .before .before .before .before .before .before .before .before .before .before .before .before .before .before .before .before .before .before .before .before .args .all in
-    let dx = c .before .before .before .before .before .before .before .before .before .before .before .before .before .before .before .before .before .before .before .before .before .before .before .before .before .args .dx .now in
-    let l = c .before .before .before .before .before .before .before .before .before .before .look .ensures in
-    let here = c .before .before .before .before .before .before .before .before .before .before .before .before .before .before .before .before .before in
-    let asked = c .before .before .relax-spread .ensures in (
-      elim (c .before .before .before .before .before .before .before .before .before .if3 .came) [
-        | inl t ↦ omega (arith, ap farCount (t .6), t .8, t .5 .ensures dx (l .nears) .total, asked .0)
-        | inr t ↦ omega (arith, ap farCount (t .1), t .3, asked .0)
+returns : tie.Need-returns
+returns c =
+    let args′ = c .before .before .before .before .before .before .before .before .before .before .before .before .before .before .before .before .before .before .before .before .args in
+    let part = read (c .before .before .before .before .before .before .before .before .before .before .before .before .before .before .before .before) in
+    let listed = c .before .before .before .before .before .before .before .before .before .before .look .ensures in
+    let spread-before = c .before .before .before .before .before .before .before .before .before .if2 .came in
+    let relaxed = c .before .before .relax-spread .ensures in (
+      elim spread-before [
+        | inl t ↦ omega (arith, ap farCount (t .6), t .8, t .5 .ensures (args′ .dx .now) (listed .nears) .total, relaxed .0)
+        | inr t ↦ omega (arith, ap farCount (t .1), t .3, relaxed .0)
       ],
       λ f.
-          let apart = apart-named mem (sym (first-is here)) (sym (size-is here)) (same-part here f .apart) in
-          let (closer, spread) = asked .1 apart in
-          opened-named (c .before .before .before .before .before .before .before .before .before .before .before .before .before .before .before .before .before .before .before .before .before .before .wide .ensures) (opened-of (c .before .before .before .before .before .before .before .before .before .before .before .before .before .before .before .before .before .before .before .before .before .before .wide .result) (first-is here) (table-is here) (size-is here) (closer-asked all l closer) (elim (c .before .before .before .before .before .before .before .before .before .if3 .came) [
-            | inl t ↦ spread-listed all l (spread-kept _ (known-kept all l apart closer) (t .5 .ensures dx (l .nears))) (spread-from (t .6) (t .7) (t .8) spread) (not-true all (t .0 .taken))
-            | inr t ↦ spread-asked all l apart (not-false all (t .0 .left)) (spread-from (t .1) (t .2) (t .3) spread)
-          ])),
+          let apart = apart-named (args′ .mem .now) (sym (part .first-is)) (sym (part .size-is)) (f .apart) in
+          let (closer, spread) = relaxed .1 apart in
+          opened-of (args′ .part) (part .first-is) (part .table-is) (part .size-is) (closer-asked (args′ .all) listed closer)
+          (elim spread-before [
+            | inl t ↦
+                spread-listed (args′ .all) listed (spread-kept _ (known-kept (args′ .all) listed apart closer) (t .5 .ensures (args′ .dx .now) (listed .nears)))
+                (spread-from (t .6) (t .7) (t .8) spread) (not-true (args′ .all) (t .0 .taken))
+            | inr t ↦ spread-asked (args′ .all) listed apart (not-false (args′ .all) (t .0 .left)) (spread-from (t .1) (t .2) (t .3) spread)
+          ]),
     )
+
+returns-2 : tie.Need-returns-2
+returns-2 c = (omega arith, λ f. absurd (fits-out (read (c .before)) (c .if1 .left) f))
 
 pub open-up-spec : {M : Type 1} → statement M
 open-up-spec =
     tie.close
-    (tie.spec
-    (search needs)
-    (search needs)
-    (search needs)
-    (search needs)
-    (search needs)
-    (search needs)
-    (search needs)
-    (search needs)
-    returns
-    mul-if2
-    add-if2
-    returns-2
-    look-requires
-    spread-known-requires
-    relax-spread-requires
-    (search needs)
-    returns-3)
+    (tie.spec (search needs) (search needs) look-requires spread-known-requires relax-spread-requires (search needs) returns returns-2)

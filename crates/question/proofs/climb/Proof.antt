@@ -2,8 +2,8 @@
 -- Assumes nothing.
 use mathlib.Core.Path.{ap}
 use native.Mathlib.Omega.{arith}
-use Rattle.part_bounds.specs.Bounds.{farCount}
-use Rattle.part_bounds.proofs.Spreading.{far-lowered}
+use Rattle.part_keys.specs.Keys.{farCount}
+use Rattle.part_keys.proofs.Spreading.{far-lowered}
 use Rattle.question.proofs.Calls.{climb-stays, climb-goes}
 use borrow.Author.Needs.{needs}
 use Rattle.question.proofs.climb.Statement.{statement}

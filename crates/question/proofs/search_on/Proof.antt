@@ -7,7 +7,7 @@ use lib.ListN.{length}
 use borrow.Author.Tests.{not-true, not-false}
 use Rattle.roads.specs.Map.{Map}
 use Rattle.fleet.specs.State.{State}
-use Rattle.part_bounds.specs.Bounds.{farCount}
+use Rattle.part_keys.specs.Keys.{farCount}
 use Rattle.van_offers.specs.Genuine.{Genuine}
 use Rattle.question.specs.Kept.{Stands, GoesOn}
 use Rattle.question.proofs.Calls.{leftOf, less-left, on-and-on, stands-still}

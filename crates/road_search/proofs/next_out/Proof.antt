@@ -6,7 +6,7 @@ use Rattle.road_search.proofs.next_out.Statement.{statement}
 use Rattle.road_search.proofs.next_out.Tie as tie
 
 returns : tie.Need-returns
-returns c = rw (lt-ltb _ _ (c .before .before .if1 .taken)) (c .index .ensures)
+returns c = rw (lt-ltb _ _ (c .before .before .if1 .taken)) (c .wide .ensures)
 
 returns-2 : tie.Need-returns-2
 returns-2 c = rw (le-ltb _ _ (c .if1 .left)) refl

@@ -2,7 +2,7 @@
 -- does. The measure is what is left of the search. Assumes nothing.
 use mathlib.Core.Path.{_∙_}
 use Rattle.roads.proofs.Exact.{dist-of-roads}
-use Rattle.road_search.specs.Waiting.{Picked}
+use Rattle.waiting.specs.Waiting.{Picked}
 use Rattle.road_search.proofs.Fans.{shownMap, laid-net, out-part, out-whole}
 use Rattle.road_search.proofs.Turns.{Going, potential, going-start, start-picked, going-turn, going-less, going-end}
 use borrow.Author.Needs.{needs}

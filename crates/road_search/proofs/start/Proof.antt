@@ -1,6 +1,6 @@
 -- `road_search::start` meets its contract. Assumes nothing.
 use mathlib.Core.Path.{refl}
-use Rattle.road_search.specs.Waiting.{begun}
+use Rattle.road_search.specs.Start.{begun}
 use borrow.Author.Needs.{needs}
 use Rattle.road_search.proofs.start.Statement.{statement}
 use Rattle.road_search.proofs.start.Tie as tie

@@ -1,6 +1,6 @@
 -- `road_search::turn` meets its contract: the roads from the first road out of `u` up to the next vertex's are the roads out of `u`.
 -- Assumes nothing.
-use Rattle.road_search.specs.Layout.{outOf}
+use Rattle.road_search.specs.Layout.{roadsOut}
 use Rattle.road_search.proofs.Fans.{Found, found}
 use borrow.Author.Needs.{needs}
 use native.Mathlib.Omega.{arith}
@@ -10,10 +10,10 @@ use Rattle.road_search.proofs.turn.Tie as tie
 -- where the roads out of `u` stand
 found-there : (c : tie.After-next-out)
     → let s = c .before .before .before .before .before .before .before in
-    Found (s .args .mem .now) (s .args .roads-at) (s .args .u) (c .before .index .result) (c .next-out .result)
+    Found (s .args .mem .now) (s .args .roads-at) (s .args .u) (c .before .wide .result) (c .next-out .result)
 found-there c =
     let s = c .before .before .before .before .before .before .before in
-    rw (c .before .index .ensures, c .next-out .ensures) (found (s .pre .0) (s .args .u) (s .pre .1 .0))
+    rw (c .before .wide .ensures, c .next-out .ensures) (found (s .pre .0) (s .args .u) (s .pre .1 .0))
 
 mul-relax-out : tie.Need-mul-relax-out
 mul-relax-out c = omega (arith, found-there c .ordered, found-there c .fits)
@@ -30,10 +30,10 @@ relax-out-requires c κs =
     (found-there numbered .fan, numbered .before .before .before .before .before .before .before .pre .1 .1)
 
 returns : tie.Need-returns
-unfolding outOf
+unfolding roadsOut
 returns c =
     let numbered = c .before .before .before .before in
-    rw (← numbered .before .index .ensures, ← numbered .next-out .ensures) (c .relax-out .ensures)
+    rw (← numbered .before .wide .ensures, ← numbered .next-out .ensures) (c .relax-out .ensures)
 
 pub turn-spec : {M : Type 1} → statement M
 turn-spec =

@@ -1,7 +1,8 @@
 -- `road_search_c::roads_laid` meets its contract: it tests each road. Assumes nothing.
 use Prim.Native.Nat.{_+_, _*_, _-_}
 use borrow.Author.Needs.{needs}
-use Rattle.road_search.specs.Layout.{LaidRoad, shownRoad}
+use Rattle.road_search.specs.Layout.{LaidRoad}
+use Rattle.road_relax.specs.Relaxing.{shownRoad}
 use Rattle.road_search_c.proofs.Tests.{Passed, tests}
 use Rattle.road_search_c.proofs.roads_laid.Statement.{statement}
 use Rattle.road_search_c.proofs.roads_laid.Tie as tie

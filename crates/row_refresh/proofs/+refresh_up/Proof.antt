@@ -11,7 +11,7 @@ use Rattle.row_refresh.proofs.refresh_up.Reads as refresh-up
 use Rattle.row_refresh.proofs.refresh_up.Kinds as refresh-up-kinds
 use Rattle.row_refresh.proofs.+refresh_up.Lts-refresh_up as refresh-up-lts
 use Rattle.cells.proofs.wide.Reads as wide-reads
-use Rattle.cells.proofs.word.Reads as word-reads
+use Rattle.part_words.proofs.part_word.Reads as part-word-reads
 use Rattle.row_refresh.proofs.refresh.Reads as refresh-reads
 use Rattle.row_refresh.proofs.+refresh_up.{statement}
 use Rattle.row_refresh.proofs.+refresh_up.Tie.{close}
@@ -33,8 +33,8 @@ pub +refresh-up-spec : {M : Type 1} → statement M
   refresh-reads.Learnt,
   wide-reads.Asked,
   wide-reads.Learnt,
-  word-reads.Asked,
-  word-reads.Learnt,
+  part-word-reads.Asked,
+  part-word-reads.Learnt,
   refresh-up-below t,
   refresh-up.Post,
 )
@@ -44,28 +44,26 @@ pub +refresh-up-spec : {M : Type 1} → statement M
     (search needs)
     (search needs)
     (search needs)
-    (search needs)
-    (search needs)
     (λ c κs.
     let pre′ = c .before .before .before .before .before .before .before .before .before .before .before .before .pre in
-    (subst (λ (k : ℕ). c .before .before .word .result < k) (pre′ .0) (c .before .if3 .taken), omega arith))
+    (subst (λ (k : ℕ). c .before .before .part-word .result < k) (pre′ .0) (c .before .if3 .taken), omega arith))
     (search needs)
     (λ c.
     let args′ = c .before .before .before .before .before .before .before .before .before .before .before .before .before .before .before .args in
     let refresh′ = c .before .before .before .before .before .before .before .before .before .before .before .refresh in
     let wide′ = c .before .before .before .before .before .before .wide in
-    let word′ = c .before .before .before .before .before .word in
+    let part-word′ = c .before .before .before .before .before .part-word in
     let if2′ = c .before .before .before .before .before .before .before .before .if2 in
     let if3′ = c .before .before .before .before .if3 in
     let refresh-up′ = c .before .before .refresh-up in
-    up-turn (args′ .mem .now) (args′ .p) (args′ .v) (args′ .arrives) (args′ .levels - 1) (args′ .levels) _ _ (omega arith) (refresh′ .ensures) _ _ (wide′ .ensures) (word′ .ensures) (if2′ .taken) _ _ refl (if3′ .taken) (refresh-up′ .ensures))
+    up-turn (args′ .mem .now) (args′ .p) (args′ .v) (args′ .arrives) (args′ .levels - 1) (args′ .levels) _ _ (omega arith) (refresh′ .ensures) _ _ (wide′ .ensures) (part-word′ .ensures) (if2′ .taken) _ _ refl (if3′ .taken) (refresh-up′ .ensures))
     (search needs)
     (λ c.
     let args′ = c .before .before .before .before .before .before .before .before .before .before .before .args in
     let refresh′ = c .before .before .before .before .before .before .before .refresh in
     let wide′ = c .before .before .wide in
     let if2′ = c .before .before .before .before .if2 in
-    up-end (args′ .mem .now) (args′ .p) (args′ .v) (args′ .arrives) (args′ .levels - 1) (args′ .levels) _ _ (omega arith) (refresh′ .ensures) _ _ (wide′ .ensures) (c .before .word .ensures) (if2′ .taken) (c .if3 .left))
+    up-end (args′ .mem .now) (args′ .p) (args′ .v) (args′ .arrives) (args′ .levels - 1) (args′ .levels) _ _ (omega arith) (refresh′ .ensures) _ _ (wide′ .ensures) (c .before .part-word .ensures) (if2′ .taken) (c .if3 .left))
     (search needs)
     (λ c.
     let args′ = c .before .before .before .before .before .before .before .args in

@@ -1,6 +1,6 @@
 -- `row_refresh::change` is `changed`, and says `touches`.
 use Rattle.row_refresh.proofs.Chain.{changed-none}
-use Rattle.row_refresh.proofs.Listing.{listed-count}
+use Rattle.listing.proofs.Turns.{listed-count}
 use borrow.Author.Needs.{needs}
 use native.Mathlib.Omega.{arith}
 use Rattle.row_refresh.proofs.change.Statement.{statement}

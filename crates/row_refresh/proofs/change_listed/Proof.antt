@@ -1,6 +1,6 @@
 -- `row_refresh::change_listed` is `changed` where some row is listed, and says `touches`.
 use Rattle.row_refresh.proofs.Chain.{changed-arrived, changed-departed}
-use Rattle.row_refresh.proofs.Listing.{showing-within}
+use Rattle.row_refresh.proofs.Chain.{showing-below}
 use borrow.Author.Needs.{needs}
 use native.Mathlib.Omega.{arith}
 use Rattle.row_refresh.proofs.change_listed.Statement.{statement}
@@ -10,7 +10,7 @@ meet-led-requires : tie.Need-meet-led-requires
 meet-led-requires c κs =
     let args′ = c .before .before .before .before .args in
     let pre′ = c .before .before .before .before .pre in
-    let within′ = showing-within (args′ .mem .now) (args′ .rows) (args′ .size) (args′ .v) (args′ .arrives) (args′ .numbers .now) (pre′ .4) in
+    let within′ = showing-below (args′ .mem .now) (args′ .rows) (args′ .size) (args′ .v) (args′ .arrives) (args′ .numbers .now) (pre′ .4) in
     (search needs, search needs, search needs, omega (arith, within′ 0 (pre′ .3)), within′)
 
 returns : tie.Need-returns
@@ -23,7 +23,7 @@ renew-part-requires : tie.Need-renew-part-requires
 renew-part-requires c κs =
     let args′ = c .before .before .before .before .args in
     let pre′ = c .before .before .before .before .pre in
-    (search needs, search needs, search needs, showing-within (args′ .mem .now) (args′ .rows) (args′ .size) (args′ .v) (args′ .arrives) (args′ .numbers .now) (pre′ .4))
+    (search needs, search needs, search needs, showing-below (args′ .mem .now) (args′ .rows) (args′ .size) (args′ .v) (args′ .arrives) (args′ .numbers .now) (pre′ .4))
 
 returns-2 : tie.Need-returns-2
 returns-2 c =

@@ -5,7 +5,7 @@ use Prim.Native.Nat.{ℕ, _+_, _-_, _*_, _≤_}
 use lib.ListN.{length, take}
 use Rattle.words.specs.Lists.{countFrom, keep}
 use Rattle.row_refresh.specs.Model.{showsIn, showing}
-use Rattle.row_refresh.proofs.Listing.{numbers-turn, numbers-done}
+use Rattle.listing.proofs.Turns.{numbers-turn, numbers-done}
 use borrow.Author.Needs.{needs}
 use native.Mathlib.Omega.{arith}
 use Rattle.row_refresh.proofs.list_showing.Statement.{statement}

@@ -1,0 +1,2 @@
+-- Lists of numbers that pass a test.
+pub mod Lists

@@ -1,0 +1,2 @@
+-- Keys that rows give to parts, and the parts that wait.
+pub mod Keys

@@ -1,0 +1,2 @@
+-- What the record of a part says.
+pub mod Part

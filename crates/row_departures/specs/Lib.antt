@@ -1,0 +1,2 @@
+-- What the departure of a vertex does to the rows of a part.
+pub mod Departure

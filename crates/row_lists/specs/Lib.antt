@@ -1,0 +1,2 @@
+-- The rows of a part, and lists of them.
+pub mod Rows

@@ -1,0 +1,2 @@
+-- A row in the memory, and as one number.
+pub mod Words

@@ -1,0 +1,2 @@
+-- The vertices that wait in a search.
+pub mod Waiting
