@@ -2,7 +2,7 @@
 use cells::wide;
 use layout::RoadRecord;
 use waiting::long;
-use waiting::lower;
+use waiting::wait_with;
 ghost use mathlib.Core.Path.{_≡_};
 ghost use lib.ListN.{length};
 ghost use Rattle.words.specs.Limits.{mostVertices};
@@ -28,8 +28,7 @@ fn relax_road(
     if offer < long(labels[to]) {
         let label = offer as u32;
         labels[to] = label;
-        keys[to] = label;
-        lower(tree, to, label);
+        wait_with(keys, tree, to, label);
     }
 }
 

@@ -7,7 +7,7 @@ use road_relax::relax_out;
 use waiting::FAR;
 use waiting::NO_KEY;
 use waiting::pick;
-use waiting::raise;
+use waiting::take;
 ghost use mathlib.Core.Path.{_≡_};
 ghost use Prim.Native.Nat.{_+_, _*_, _≤_, _<_};
 ghost use lib.ListN.{length, set};
@@ -48,8 +48,7 @@ fn turn(
     ensures { λ _. ⌜ now (labels .exit) ≡ relaxAll (roadsOut (now (mem .entry)) «vertices_at» n «roads_at» count u) (now (labels .entry)) ⌝ }
     ensures { λ _. ⌜ now (keys .exit) ≡ wakeAll (roadsOut (now (mem .entry)) «vertices_at» n «roads_at» count u) (now (labels .entry)) (set (now (keys .entry)) u FAR) ⌝ }
 {
-    keys[u] = FAR;
-    raise(keys, tree, u);
+    take(keys, tree, u);
     let first = wide(mem[vertices_at + VertexRecord::WORDS * u + VertexRecord::ROADS]);
     let next = next_out(mem, vertices_at, n, count, u);
     relax_out(

@@ -15,6 +15,7 @@ use Rattle.far_sums.specs.Least.{Least}
 use Rattle.far_sums.proofs.Lowering.{lowered-same, lowered-length, lowered-no-more, lowered-here, lowered-honest, lowered-where}
 use Rattle.cells.specs.Lowered.{lowered}
 use Rattle.listing.specs.Lists.{Among}
+use Rattle.part_words.proofs.Fits.{row-within}
 use Rattle.row_lists.specs.Rows.{ownerAt, nearAt, showsOwn, isKnown, isAsked, AskedRow, OwnRow, Looked}
 use Rattle.row_lists.proofs.Rows.{row-read}
 use Rattle.row_distances.specs.Distances.{wayIn, Closer, Alone}
@@ -141,8 +142,14 @@ module _ {mem : List ℕ} {first size : ℕ} {dx : List ℕ} {test : ℕ → Boo
       which r s hs e (no other) = inr (s, omega (arith, other), e)
 
   -- a row that is asked for
-  pub asked-row : {t i : ℕ} → t < count → i ≡ word asked t → i < size
+  asked-row : {t i : ℕ} → t < count → i ≡ word asked t → i < size
   asked-row {t} h isRow = omega (arith, l .asks .only t h .0)
+
+  -- and its words of the table
+  pub asked-within : size ≤ 128 → {t i : ℕ} → t < count → i ≡ word asked t → (i < size) × (size * i ≤ 16384) × (size * i + size ≤ size * size)
+  asked-within few {t} {i} h isRow =
+      let line = row-within size i few (asked-row h isRow) in
+      (asked-row h isRow, line .0, line .1)
 
   pub known-few : size ≤ 128 → known ≤ 128
   known-few few = omega (arith, l .knows .few)

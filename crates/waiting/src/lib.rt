@@ -3,6 +3,8 @@
 use cells::lesser_wide;
 ghost use mathlib.Core.Path.{_≡_};
 ghost use Prim.Native.Nat.{_+_, _*_, _/_, _≤_, _<_};
+ghost use lib.ListN.{set};
+ghost use Rattle.words.specs.Limits.{FAR};
 ghost use Rattle.words.specs.Lists.{word};
 ghost use Rattle.waiting.specs.Waiting.{Picked};
 
@@ -46,7 +48,7 @@ fn lower_node(tree: &mut [u64; 1365], node: usize, new: u64)
 }
 
 // The key of `v` fell to `key`: the nodes above it, from the bottom up.
-pub fn lower(tree: &mut [u64; 1365], v: usize, key: u32)
+fn lower(tree: &mut [u64; 1365], v: usize, key: u32)
     requires { ⌜ v < 4096 ⌝ }
 {
     let new = keyed(key, v);
@@ -73,7 +75,7 @@ fn raise_node(tree: &mut [u64; 1365], level: usize, i: usize, x: u64) -> u64
 }
 
 // `v` has ceased to wait: the nodes above it, from the bottom up.
-pub fn raise(keys: &[u32; 4096], tree: &mut [u64; 1365], v: usize)
+fn raise(keys: &[u32; 4096], tree: &mut [u64; 1365], v: usize)
     requires { ⌜ v < 4096 ⌝ }
 {
     let mut x = least_key(keys, v / 4 * 4);
@@ -82,6 +84,24 @@ pub fn raise(keys: &[u32; 4096], tree: &mut [u64; 1365], v: usize)
     x = raise_node(tree, 21, v / 64, x);
     x = raise_node(tree, 5, v / 256, x);
     tree[0] = raise_node(tree, 1, v / 1024, x);
+}
+
+// `v` waits from now on, with this key.
+pub fn wait_with(keys: &mut [u32; 4096], tree: &mut [u64; 1365], v: usize, key: u32)
+    requires { ⌜ v < 4096 ⌝ }
+    ensures { λ _. ⌜ now (keys .exit) ≡ set (now (keys .entry)) v key ⌝ }
+{
+    keys[v] = key;
+    lower(tree, v, key);
+}
+
+// `v` is taken, and ceases to wait.
+pub fn take(keys: &mut [u32; 4096], tree: &mut [u64; 1365], v: usize)
+    requires { ⌜ v < 4096 ⌝ }
+    ensures { λ _. ⌜ now (keys .exit) ≡ set (now (keys .entry)) v FAR ⌝ }
+{
+    keys[v] = FAR;
+    raise(keys, tree, v);
 }
 
 // The first vertex below `n` that waits, or `n`.

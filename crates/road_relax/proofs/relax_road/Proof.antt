@@ -1,6 +1,7 @@
 -- `road_relax::relax_road` meets its contract: in each arm the stores are what `relax` and `wake` say. Assumes nothing.
 use Rattle.road_relax.proofs.Relaxed.{Seen, stored, passed}
 use borrow.Author.Needs.{needs}
+use mathlib.Core.Path.{_∙_}
 use Rattle.road_relax.proofs.relax_road.Statement.{statement}
 use Rattle.road_relax.proofs.relax_road.Tie as tie
 
@@ -20,7 +21,9 @@ seen c =
     }
 
 returns : tie.Need-returns
-returns c = stored _ _ _ _ _ _ _ _ _ (seen (c .before .before .before)) (search needs)
+returns c =
+    let both = stored _ _ _ _ _ _ _ _ _ (seen (c .before .before .before .before)) (search needs) in
+    (both .0, c .wait-with .ensures ∙ both .1)
 
 returns-2 : tie.Need-returns-2
 returns-2 c = passed _ _ _ _ _ _ _ _ _ (seen (c .before)) (search needs)
@@ -29,8 +32,6 @@ pub relax-road-spec : {M : Type 1} → statement M
 relax-road-spec =
     tie.close
     (tie.spec
-    (search needs)
-    (search needs)
     (search needs)
     (search needs)
     (search needs)

@@ -33,14 +33,13 @@ returns : tie.Need-returns
 unfolding roadsOut
 returns c =
     let numbered = c .before .before .before .before in
-    rw (← numbered .before .wide .ensures, ← numbered .next-out .ensures) (c .relax-out .ensures)
+    let taken = numbered .before .before .before in
+    rw (← numbered .before .wide .ensures, ← numbered .next-out .ensures, ← taken .take .ensures) (c .relax-out .ensures)
 
 pub turn-spec : {M : Type 1} → statement M
 turn-spec =
     tie.close
     (tie.spec
-    (search needs)
-    (search needs)
     (search needs)
     (search needs)
     (search needs)

@@ -8,8 +8,7 @@ use Rattle.listing.specs.Lists.{Among}
 use Rattle.row_distances.specs.Distances.{Closer}
 use Rattle.row_distances.proofs.Ways.{over-row}
 use Rattle.row_lists.proofs.Rows.{row-fits, cut-row, rows-fit}
-use Rattle.part_words.proofs.Fits.{row-within}
-use Rattle.row_distances.proofs.Relaxing.{owner-lowered, asked-row, known-few, closer-none, closer-next, closer-count}
+use Rattle.row_distances.proofs.Relaxing.{owner-lowered, asked-within, known-few, closer-none, closer-next, closer-count}
 use borrow.Author.Needs.{needs}
 use Rattle.row_distances.proofs.relax_asked.Statement.{statement}
 use Rattle.row_distances.proofs.relax_asked.Tie as tie
@@ -25,12 +24,9 @@ within-row : (c : tie.After-wide Inv-loop μ-loop)
     → let args′ = c .before .before .before .before .before .before .before .before .args in
     (c .wide .result < args′ .size) × (args′ .size * c .wide .result ≤ 16384) × (args′ .size * c .wide .result + args′ .size ≤ args′ .size * args′ .size)
 within-row c =
-    let args′ = c .before .before .before .before .before .before .before .before .args in
     let pre′ = c .before .before .before .before .before .before .before .before .pre in
     let loop-test′ = c .before .before .before .loop-test in
-    let here : c .wide .result < args′ .size = asked-row (pre′ .5 .1) (loop-test′ .taken) (c .wide .ensures ∙ c .before .word .ensures) in
-    let w = row-within (args′ .size) (c .wide .result) (pre′ .2) here in
-    (here, w .0, w .1)
+    asked-within (pre′ .5 .1) (pre′ .2) (loop-test′ .taken) (c .wide .ensures ∙ c .before .word .ensures)
 
 mul-at : tie.Need-mul-at Inv-loop μ-loop
 mul-at c = omega (arith, within-row c)
