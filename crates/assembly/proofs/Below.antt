@@ -7,6 +7,7 @@ use mathlib.Core.List.{List·Memᴰ}
 use Prim.Native.Nat.{ℕ, _+_, _*_, _<_}
 use native.Mathlib.Omega.{arith}
 use Rattle.words.proofs.Lists.{place-in}
+use Rattle.layout.specs.Layout.{row·words}
 use Rattle.roads.specs.Map.{Map, partCount}
 use Rattle.roads.proofs.Trail.{Net}
 use Rattle.parts.specs.Tree.{children, childOf, isLeaf}
@@ -66,7 +67,7 @@ module _ (m : Map) (s : Sound m) where
       (border-row m net tree p (rowVertex m p i) c (border-of p i (child-inner m p c (a .is-child)) hi) (a .is-child) (a .is-held))
 
   -- which word 3 shows
-  pub row-below : (p i c : ℕ) → i < sizeOf m p → RowIn m p i c → rowBelow m p (rowVertex m p i) ≡ firstRowOf m c + 4 * placeBelow m p i c
+  pub row-below : (p i c : ℕ) → i < sizeOf m p → RowIn m p i c → rowBelow m p (rowVertex m p i) ≡ firstRowOf m c + row·words * placeBelow m p i c
   unfolding rowBelow rowAt
   row-below p i c hi a =
       ap (λ (b : Bool). cond b (itselfAt m (rowVertex m p i)) (rowAt m (childOf m p (rowVertex m p i)) (rowVertex m p i))) (child-inner m p c (a .is-child))

@@ -15,7 +15,7 @@ use Rattle.parts.specs.Size.{sizeOf, need}
 use Rattle.image.specs.Places.{tableOf}
 use Rattle.image.specs.Records.{rowVertex}
 use Rattle.image.proofs.Records.{rows-end}
-use Rattle.assembly.specs.Laid.{LaidForTables, tableEntry}
+use Rattle.assembly.specs.Laid.{tableEntry}
 use Rattle.assembly.specs.Lower.{Honest, Lower, Inside}
 use Rattle.assembly.proofs.Places.{table-from, table-to, entry-to, one-word}
 
@@ -53,11 +53,6 @@ module _ (mem : List ℕ) (a x : ℕ) where
     | yes same ↦ subst⁻¹ (λ (k : ℕ). getD (lowered mem a x) k 0 ≤ getD mem k 0) same (omega (arith, lowered-at h))
     | no other ↦ omega (arith, lowered-other y other)
   ]
-
--- every word of a table is within the memory
-pub entry-fits : (m : Map) (mem : List ℕ) → LaidForTables m mem → (q i j : ℕ) → q < partCount m → i < sizeOf m q → j < sizeOf m q →
-    tableOf m q + (sizeOf m q * i + j) < length mem
-entry-fits m mem L q i j hq hi hj = omega (arith, L .fits, rows-end m, table-to m q hq, entry-to m q i j hi hj)
 
 module _ (m : Map) (mem : List ℕ) (fits : need m ≤ length mem) (q i j : ℕ) (hq : q < partCount m) (hi : i < sizeOf m q) (hj : j < sizeOf m q) (x : ℕ) where
   within : tableOf m q + (sizeOf m q * i + j) < length mem

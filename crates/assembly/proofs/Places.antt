@@ -7,6 +7,7 @@ use Prim.Native.Nat.{ℕ, _+_, _*_, _≤_, _<_}
 use native.Mathlib.Decide.{decLt}
 use native.Mathlib.Omega.{arith}
 use lib.ListN.{length}
+use Rattle.words.specs.Limits.{headWords}
 use Rattle.words.specs.Lists.{word}
 use Rattle.words.proofs.Sums.{record-within, sum-below}
 use Rattle.words.proofs.Places.{entry-in}
@@ -65,7 +66,7 @@ module _ (m : Map) where
 
   -- ---- outside the tables
 
-  pub head-outside : (x : ℕ) → x < 64 → OutsideTables m x
+  pub head-outside : (x : ℕ) → x < headWords → OutsideTables m x
   head-outside x h = inl (omega (arith, vertices-start m, roads-start m, vans-start m, tables-start m))
 
   pub part-outside : (p w : ℕ) → p < partCount m → w < part·words → OutsideTables m (partAt p + w)

@@ -48,7 +48,7 @@ module _ (m : Map) (mem : List ℕ) (L : LaidForTables m mem) (p i : ℕ) (hp : 
       shown-place below-is points finds =
           finds (placeBelow m p i c)
           (points ∙ ap (λ (f : ℕ). rowWord mem f i row·below) (first-is ∙ L .part p hp .first-row) ∙ L .row p i hp hi .below ∙ row-below m (L .sound) p i c hi shown-in
-          ∙ ap (λ (f : ℕ). f + 4 * placeBelow m p i c) (sym (below-is ∙ L .part c (shown-later .0) .first-row)))
+          ∙ ap (λ (f : ℕ). f + row·words * placeBelow m p i c) (sym (below-is ∙ L .part c (shown-later .0) .first-row)))
 
 pub below-shown : (mem : List ℕ) {i first mark part row size firstBelow table k : ℕ} → mark ≡ rowWord mem first i row·own → ((v d : ℕ) → v < row·child → mark ≡ v + row·child * d → part ≡ d) →
     size ≡ partWord mem part part·size → firstBelow ≡ partWord mem part part·rows → table ≡ partWord mem part part·table →

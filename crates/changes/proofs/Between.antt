@@ -7,9 +7,9 @@ use native.Mathlib.Omega.{arith}
 use lib.ListN.{length, set, length-set}
 use lib.Seq.{getD-set-same, getD-set-other}
 use native.Mathlib.Decide.{ℕ-discrete}
-use Rattle.words.specs.Limits.{vans}
+use Rattle.words.specs.Limits.{vans, headWords}
 use Rattle.words.specs.Lists.{word}
-use Rattle.layout.specs.Layout.{vertex·words, vertex·vans, van·words}
+use Rattle.layout.specs.Layout.{head·count, vertex·words, vertex·vans, van·words}
 use Rattle.roads.specs.Map.{Map}
 use Rattle.places.specs.Place.{vertexAddress, vanAddress}
 use Rattle.fleet.specs.State.{Slot, absent, present, State, active, slotOf}
@@ -34,7 +34,7 @@ module _ (m : Map) (s t : State) (slots : length (s .vans) ≡ vans) (slots′ :
   past-vans a past =
       only .other a (λ v hv e. omega (arith, vertices-start m, roads-start m, vans-start m, tables-start m)) (λ x f hx hf e. omega (arith, vans-end m))
 
-  head-same : (a : ℕ) → a < 64 → word (image m s) a ≡ word (image m t) a
+  head-same : (a : ℕ) → a < headWords → word (image m s) a ≡ word (image m t) a
   unfolding headPart
   head-same a h = head-word m s slots a h ∙ ap (λ (c : ℕ). word (headPart m (record { count = c; vans = s .vans })) a) same-count ∙ sym (head-word m t slots′ a h)
 
@@ -110,7 +110,7 @@ module _ (m : Map) (s : State) (slots : length (s .vans) ≡ vans) (c : ℕ) whe
   unfolding headPart vertexRecord active linkFrom
   count-same a other (in-head h) = head-word m s slots a h ∙ by a h other ∙ sym (head-word m (withCount s c) slots a h)
     where
-      by : (b : ℕ) → b < 64 → (b ≡ 5 → ⊥) → word (headPart m s) b ≡ word (headPart m (withCount s c)) b
+      by : (b : ℕ) → b < headWords → (b ≡ head·count → ⊥) → word (headPart m s) b ≡ word (headPart m (withCount s c)) b
       by zero h not5 = refl
       by (suc zero) h not5 = refl
       by (suc (suc zero)) h not5 = refl

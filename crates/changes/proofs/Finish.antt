@@ -30,7 +30,7 @@ use Rattle.van_lists.proofs.Relink.{slot-new}
 use Rattle.refusals.specs.declared.Verdict.{Verdict}
 use Rattle.refusals.specs.declared.Verdict.the-variants.{Refuse, Stand}
 use Rattle.refusals.specs.Verdict.{HasVerdict}
-use Rattle.refusals.proofs.Agrees.{Agrees, agrees}
+use Rattle.refusals.proofs.Agrees.{VerdictAgrees, agrees}
 use Rattle.refusals.proofs.Later.{Later, judged-later}
 use Rattle.changes.specs.Made.{counted, settled}
 use Rattle.changes.specs.Done.{ChangeDone}
@@ -57,7 +57,7 @@ module _ (mem : List ℕ) (c : Change) (counts : Counts) (van : ℕ) (old : VanW
     old-are : old ≡ standingWords (slotOf s (vanOf c))
     old-are = read .old-is ∙ (λ i. vanIn (e i) (counts-are i) (read .van-is i)) ∙ van-read m s (good .slots) (vanOf c) (van-in-range c ok)
 
-    pub agreed : Agrees m s c verdict
+    pub agreed : VerdictAgrees m s c verdict
     agreed =
         agrees m s (image m s) (countsOf m) sound (image-roads m s (good .slots)) (image-weights m s (good .slots)) c ok verdict
         (subst (λ (k : VanWords). HasVerdict (image m s) (countsOf m) k c verdict) old-are
@@ -68,7 +68,7 @@ module _ (mem : List ℕ) (c : Change) (counts : Counts) (van : ℕ) (old : VanW
   refused-done r is =
       record {
         right = λ m s sound good e ok.
-            let a : Agrees m s c (Refuse r) = subst (Agrees m s c) is (agreed m s sound good e ok) in
+            let a : VerdictAgrees m s c (Refuse r) = subst (VerdictAgrees m s c) is (agreed m s sound good e ok) in
             let by : step m s c ≡ stepBy (suc (a .0)) m s c = step-by m s c (suc (a .0)) (a .1) in
             (a .2 ∙ ap (λ (k : Stepped). k .answer) (sym by), e ∙ ap (λ (k : Stepped). image m (k .state)) (sym by));
         refusal = λ n same. refl;
@@ -90,8 +90,8 @@ module _ (mem : List ℕ) (c : Change) (counts : Counts) (van : ℕ) (old : VanW
         count : word mem head·count ≡ s .count
         count = ap (λ (l : List ℕ). word l 5) e ∙ count-read m s (good .slots)
 
-        a : Agrees m s c (Stand w)
-        a = subst (Agrees m s c) is (agreed m s sound good e ok)
+        a : VerdictAgrees m s c (Stand w)
+        a = subst (VerdictAgrees m s c) is (agreed m s sound good e ok)
 
         refuses : s .count ≡ lastCount → (answered r ≡ step m s c .answer) × (after ≡ image m (step m s c .state))
         refuses last =

@@ -19,12 +19,12 @@ use Rattle.parts.proofs.Down.{Tree, boundary-row}
 use Rattle.parts.proofs.Gates.{row-held}
 use Rattle.inner_walks.specs.Inner.{Inner}
 
-pub record Entered (m : Map) (c : ℕ) (T : ℕ → ℕ → ℕ) : Type 0 where
+pub record EnteredTable (m : Map) (c : ℕ) (T : ℕ → ℕ → ℕ) : Type 0 where
   pub inner : (a b w : ℕ) → List·Memᴰ a (rowVertices m c) → List·Memᴰ b (rowVertices m c) → Inner m c a b w → T a b ≤ w
   pub between : (g h w : ℕ) → boundary m c g ≡ true → boundary m c h ≡ true → Walk m g h w → T g h ≤ w
   pub tried : (a g b : ℕ) → List·Memᴰ a (rowVertices m c) → boundary m c g ≡ true → List·Memᴰ b (rowVertices m c) → T a b ≤ T a g + T g b
 
-module _ (m : Map) (net : Net m) (tree : Tree m) (c : ℕ) (T : ℕ → ℕ → ℕ) (E : Entered m c T) where
+module _ (m : Map) (net : Net m) (tree : Tree m) (c : ℕ) (T : ℕ → ℕ → ℕ) (E : EnteredTable m c T) where
   pub entered-least : (a b w : ℕ) → List·Memᴰ a (rowVertices m c) → List·Memᴰ b (rowVertices m c) → Walk m a b w → T a b ≤ w
   entered-least a b w ha hb walk =
       elim (cut-first (holds m c) (boundary m c) (leaves-boundary m c) (row-held m net tree c a ha) walk) [

@@ -21,7 +21,7 @@ use Rattle.parts.proofs.Gates.{rows-leaf, boundary-above}
 use Rattle.inner_walks.specs.Inner.{Inner}
 
 -- what a table over the row vertices of p has to keep
-pub record Closed (m : Map) (p : ℕ) (T : ℕ → ℕ → ℕ) : Type 0 where
+pub record ClosedTable (m : Map) (p : ℕ) (T : ℕ → ℕ → ℕ) : Type 0 where
   pub at-home : (a : ℕ) → List·Memᴰ a (rowVertices m p) → T a a ≤ 0
   pub road : (r : Road) → List·Memᴰ r (m .roads) → List·Memᴰ (r .from) (rowVertices m p) → List·Memᴰ (r .to) (rowVertices m p) → T (r .from) (r .to) ≤ r .weight
   pub child : (c a b w : ℕ) → List·Memᴰ c (children m p) → List·Memᴰ a (rowVertices m p) → List·Memᴰ b (rowVertices m p) → Inner m c a b w → T a b ≤ w
@@ -35,7 +35,7 @@ module _ (m : Map) (net : Net m) (tree : Tree m) where
   leaf-row : (p v : ℕ) → isLeaf m p ≡ true → holds m p v ≡ true → List·Memᴰ v (rowVertices m p)
   leaf-row p v e h = rw (rows-leaf m p e) (vertices-has m p v (holds-says m p v h .0) (leaf-of-held m net tree p v e h))
 
-  module _ (p : ℕ) (T : ℕ → ℕ → ℕ) (C : Closed m p T) where
+  module _ (p : ℕ) (T : ℕ → ℕ → ℕ) (C : ClosedTable m p T) where
     -- in a leaf every vertex has a row
     leaf-least : isLeaf m p ≡ true → {a b w : ℕ} → Inner m p a b w → T a b ≤ w
     leaf-least e (rest {a} h) = C .at-home a (leaf-row p a e h)

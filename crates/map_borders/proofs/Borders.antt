@@ -27,7 +27,7 @@ use Rattle.map_bytes.specs.Each.{eachFrom}
 use Rattle.map_bytes.proofs.Each.{each-all}
 use Rattle.map_parts.specs.Tally.{Tallied}
 use Rattle.map_parts.proofs.Fits.{homes-are}
-use Rattle.map_borders.specs.Lift.{meet, roadMeet, outside, Lifted}
+use Rattle.map_borders.specs.Lift.{mostSteps, meet, roadMeet, outside, Lifted}
 use Rattle.map_borders.specs.Mark.{steps, BordersCounted, fewAt}
 use Rattle.map_borders.specs.Sizes.{Given, Lifts, Sizes}
 use Rattle.map_borders.proofs.Meet.{Common, common-swap, common-is}
@@ -78,8 +78,8 @@ module _ {m : Map} {parents leaves body : List ℕ} {vertices roads parts : ℕ}
       let first = leaf-part _ from in
       let second = leaf-part _ to in
       subst (λ (x : ℕ). Common m (leafOf m (field body (8 * i) 2)) (leafOf m (field body (8 * i + 2) 2)) x)
-      (ap₂ (λ (a b : ℕ). meet parents 1024 a b) (given .shows .leaf _ from) (given .shows .leaf _ to))
-      (common-is m falls parents same 1024 _ _ (omega (arith, given .shows .count, given .fewParts)) first second)
+      (ap₂ (λ (a b : ℕ). meet parents mostSteps a b) (given .shows .leaf _ from) (given .shows .leaf _ to))
+      (common-is m falls parents same mostSteps _ _ (omega (arith, given .shows .count, given .fewParts)) first second)
 
   road-outside : (v c i : ℕ) → i < roads → holds m c v ≡ true → (leavesAt m c v (roadShown body i) || entersAt m c v (roadShown body i)) ≡ outside parents leaves body v c i
   unfolding leavesAt entersAt roadShown outside

@@ -14,7 +14,7 @@ use Rattle.words.specs.Limits.{mostVertices, NONE}
 use Rattle.words.specs.Lists.{countFrom, word, any}
 use Rattle.cells.specs.Lowered.{lowered}
 use Rattle.maps.specs.Bytes.{field}
-use Rattle.map_borders.specs.Lift.{meet, roadMeet, lifted, outside, Lifted}
+use Rattle.map_borders.specs.Lift.{mostSteps, meet, roadMeet, lifted, outside, Lifted}
 
 pub lowered-length : (lifts : List ℕ) (v x : ℕ) → length (lowered lifts v x) ≡ length lifts
 lowered-length lifts v x = length-set lifts v _
@@ -25,11 +25,11 @@ lifted-length parents leaves body i lifts = simp length-set
 
 -- what `lift_road` has read and done
 pub lifted-by : (parents leaves body : List ℕ) (i : ℕ) (lifts : List ℕ) {from to a b x u v : ℕ} {first second : List ℕ}
-    → from ≡ field body (8 * i) 2 → to ≡ field body (8 * i + 2) 2 → a ≡ word leaves from → b ≡ word leaves to → x ≡ meet parents 1024 a b → u ≡ from → v ≡ to
+    → from ≡ field body (8 * i) 2 → to ≡ field body (8 * i + 2) 2 → a ≡ word leaves from → b ≡ word leaves to → x ≡ meet parents mostSteps a b → u ≡ from → v ≡ to
     → first ≡ lowered lifts u x → second ≡ lowered first v x → second ≡ lifted parents leaves body i lifts
 unfolding lifted roadMeet
 lifted-by parents leaves body i lifts {x = x} isFrom isTo isA isB isX isU isV isFirst isSecond =
-    let whole : x ≡ roadMeet parents leaves body i = isX ∙ λ j. meet parents 1024 ((isA ∙ ap (word leaves) isFrom) j) ((isB ∙ ap (word leaves) isTo) j) in
+    let whole : x ≡ roadMeet parents leaves body i = isX ∙ λ j. meet parents mostSteps ((isA ∙ ap (word leaves) isFrom) j) ((isB ∙ ap (word leaves) isTo) j) in
     isSecond ∙ (λ j. lowered (isFirst j) ((isV ∙ isTo) j) (whole j)) ∙ λ j. lowered (lowered lifts ((isU ∙ isFrom) j) (whole j)) (field body (8 * i + 2) 2) (roadMeet parents leaves body i)
 
 -- below c after: below c before, or the new one is

@@ -5,10 +5,14 @@ use mathlib.Core.List.{List}
 use Prim.Native.Nat.{ℕ, zero, suc, _+_, _*_, _<_, min, max}
 use lib.ListN.{length}
 use lib.Dec.{ltb, eqb}
-use Rattle.words.specs.Limits.{mostVertices, NONE}
+use Rattle.words.specs.Limits.{mostVertices, mostParts, NONE}
 use Rattle.words.specs.Lists.{countFrom, word, any}
 use Rattle.cells.specs.Lowered.{lowered}
 use Rattle.maps.specs.Bytes.{field}
+
+-- each step to a parent lowers one of two part numbers
+abbrev pub mostSteps : ℕ
+mostSteps = 2 * mostParts
 
 -- the lowest part that is a or b or lies above them, in n steps: the one with the higher number gives way to its parent
 unfoldable pub meet : List ℕ → ℕ → ℕ → ℕ → ℕ
@@ -17,7 +21,7 @@ meet parents (suc n) a b = let above = meet parents n (min a b) (word parents (m
 
 -- the lowest part that both ends of road i stand in
 unfoldable pub roadMeet : List ℕ → List ℕ → List ℕ → ℕ → ℕ
-roadMeet parents leaves body i = meet parents 1024 (word leaves (field body (8 * i) 2)) (word leaves (field body (8 * i + 2) 2))
+roadMeet parents leaves body i = meet parents mostSteps (word leaves (field body (8 * i) 2)) (word leaves (field body (8 * i + 2) 2))
 
 unfoldable pub lifted : List ℕ → List ℕ → List ℕ → ℕ → List ℕ → List ℕ
 lifted parents leaves body i lifts =

@@ -14,7 +14,7 @@ ghost use Rattle.words.specs.Limits.{mostVertices, mostParts, NONE};
 ghost use Rattle.words.specs.Lists.{word};
 ghost use Rattle.roads.specs.Map.{Map};
 ghost use Rattle.map_bytes.specs.Each.{eachFrom};
-ghost use Rattle.map_borders.specs.Lift.{meet, lifted, Lifted};
+ghost use Rattle.map_borders.specs.Lift.{mostSteps, meet, lifted, Lifted};
 ghost use Rattle.map_borders.specs.Mark.{bumped, Marked, BordersCounted, fewAt};
 ghost use Rattle.map_borders.specs.Sizes.{Given, Lifts, Sizes};
 
@@ -27,13 +27,16 @@ fn greater(x: u32, y: u32) -> u32
     x
 }
 
+// Each step to a parent lowers one of two part numbers.
+const MOST_STEPS: u32 = 2 * Counts::MOST_PARTS;
+
 // The lowest part that is both parts or lies above them.
 fn common(parents: &[u32], a: u32, b: u32) -> u32
-    ensures { λ r. ⌜ r ≡ meet (now (parents .entry)) 1024 a b ⌝ }
+    ensures { λ r. ⌜ r ≡ meet (now (parents .entry)) mostSteps a b ⌝ }
 {
     let mut x = a;
     let mut y = b;
-    let mut left: u32 = 1024;
+    let mut left: u32 = MOST_STEPS;
     while 0 < left {
         if x == y {
             return x;
@@ -90,7 +93,7 @@ fn mark(parents: &[u32], leaf: u32, lift: u32, counts: &mut [u32; 512])
     ensures { λ _. ⌜ Marked (now (parents .entry)) lift leaf (now (counts .entry)) (now (counts .exit)) ⌝ }
 {
     let mut part = leaf;
-    let mut left: u32 = 512;
+    let mut left: u32 = Counts::MOST_PARTS;
     while 0 < left {
         if part <= lift {
             return;

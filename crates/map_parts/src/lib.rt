@@ -1,5 +1,6 @@
 // The rules for the parts of a map but for the border limit: the first test for refusal 3.
 use cells::word;
+use counts::Counts;
 use counts::is_within;
 ghost use mathlib.Core.Path.{_≡_};
 ghost use Prim.Native.Nat.{ℕ, _<_, _≤_};
@@ -52,6 +53,8 @@ pub fn entry(words: &[u32], i: u32) -> u32
     word(words, i as usize)
 }
 
+const MOST_PARTS: usize = Counts::MOST_PARTS as usize;
+
 // For each part, how many of the first n words are its number.
 pub fn tally(numbers: &[u32], n: u32, counts: &mut [u32; 512])
     requires { ⌜ (length (now counts) ≡ mostParts) × ((p : ℕ) → word (now counts) p ≡ 0) × (n < 65536) ⌝ }
@@ -60,7 +63,7 @@ pub fn tally(numbers: &[u32], n: u32, counts: &mut [u32; 512])
     let mut i: u32 = 0;
     while i < n {
         let p = entry(numbers, i) as usize;
-        if p < 512 {
+        if p < MOST_PARTS {
             counts[p] += 1;
         }
         i += 1;

@@ -3,6 +3,7 @@
 use cells::put;
 use cells::wide;
 use cells::word;
+use counts::Counts;
 use layout::PartRecord;
 use layout::RowRecord;
 use layout::VertexRecord;
@@ -63,7 +64,7 @@ fn climb(
     let mut part = leaf;
     let mut child: u32 = 0;
     let mut below = itself;
-    let mut left: u32 = 512;
+    let mut left: u32 = Counts::MOST_PARTS;
     while 0 < left {
         let at = write_row(mem, cursors, part, v, child, below);
         if part <= lift {

@@ -10,6 +10,7 @@ use lib.ListN.{length}
 use Rattle.words.specs.Limits.{mostParts, mostVertices}
 use Rattle.words.specs.Lists.{word, link}
 use Rattle.words.proofs.Places.{entry-in}
+use Rattle.layout.specs.Layout.{part·rows, verticesFrom, roadsFrom, partAt}
 use Rattle.roads.specs.Map.{Map, partCount, roadAt, noRoad}
 use Rattle.parts.specs.Tree.{isLeaf, verticesOf}
 use Rattle.parts.specs.Border.{borders}
@@ -57,7 +58,7 @@ module _ (m : Map) (parents leaves body lifts sizes : List ℕ) (vertices roads 
         room = omega (arith, long, shown .counted .need-is, rows-end m, rows-start m, tables-start m, vans-start m, roads-start m);
       }
 
-  pub roads-ready : (base : ℕ) (ins : List ℕ) → base ≡ 64 + 8 * parts + 8 * vertices → length ins ≡ mostVertices → ((v : ℕ) → v < length ins → word ins v ≡ 0)
+  pub roads-ready : (base : ℕ) (ins : List ℕ) → base ≡ roadsFrom parts vertices → length ins ≡ mostVertices → ((v : ℕ) → v < length ins → word ins v ≡ 0)
       → roads-specs.RoadsReady m body roads base ins mem
   roads-ready base ins e wide none =
       record {
@@ -69,7 +70,7 @@ module _ (m : Map) (parents leaves body lifts sizes : List ℕ) (vertices roads 
         room = omega (arith, long, shown .counted .need-is, rows-end m, rows-start m, tables-start m, vans-start m);
       }
 
-  pub vertices-ready : (base : ℕ) (ins places mem′ : List ℕ) → base ≡ 64 + 8 * parts → length mem′ ≡ length mem → ((v : ℕ) → v < m .vertices → word ins v ≡ link (endsAt v) 0 (m .roads))
+  pub vertices-ready : (base : ℕ) (ins places mem′ : List ℕ) → base ≡ verticesFrom parts → length mem′ ≡ length mem → ((v : ℕ) → v < m .vertices → word ins v ≡ link (endsAt v) 0 (m .roads))
       → length places ≡ mostParts → ((q : ℕ) → q < length places → word places q ≡ 0) → vertices-specs.VerticesReady m leaves body roads vertices base ins places mem′
   vertices-ready base ins places mem′ e same linked wide none =
       record {
@@ -86,7 +87,7 @@ module _ (m : Map) (parents leaves body lifts sizes : List ℕ) (vertices roads 
         room = omega (arith, same, long, shown .counted .need-is, rows-end m, rows-start m, tables-start m, vans-start m, roads-start m, vertices-start m);
       }
 
-  pub rows-ready : (base : ℕ) (cursors : List ℕ) → used < 4294967296 → base ≡ 64 + 8 * parts → length cursors ≡ mostParts → ((p : ℕ) → p < partCount m → word cursors p ≡ firstRowOf m p)
+  pub rows-ready : (base : ℕ) (cursors : List ℕ) → used < 4294967296 → base ≡ verticesFrom parts → length cursors ≡ mostParts → ((p : ℕ) → p < partCount m → word cursors p ≡ firstRowOf m p)
       → rows-specs.RowsReady m parents leaves lifts vertices base cursors mem
   rows-ready base cursors fits e wide first =
       record {
@@ -106,7 +107,7 @@ module _ (m : Map) (parents leaves body lifts sizes : List ℕ) (vertices roads 
   -- the roads, and then the vertices with the links that the roads left
   pub net-stands : (ins between : List ℕ) (long-ins : length ins ≡ mostVertices) (places after : List ℕ) → length places ≡ mostParts → ((q : ℕ) → q < length places → word places q ≡ 0)
       → roads-specs.RoadsStand m 0 mem ins between
-      → (vertices-specs.VerticesReady m leaves body roads vertices (64 + 8 * parts) ins places between → vertices-specs.VerticesStand m vertices between after)
+      → (vertices-specs.VerticesReady m leaves body roads vertices (verticesFrom parts) ins places between → vertices-specs.VerticesStand m vertices between after)
       → NetStands m mem after
   net-stands ins between long-ins places after wide none stand then-vertices =
       record {
@@ -115,14 +116,14 @@ module _ (m : Map) (parents leaves body lifts sizes : List ℕ) (vertices roads 
         vertices =
             subst (λ (k : ℕ). Written (verticesAt m) 8 0 k (freshVertex m) between after) (shown .counted .vertex-count)
             (then-vertices
-            (vertices-ready m parents leaves body lifts sizes vertices roads parts used shown mem long (64 + 8 * parts) ins places between refl (stand .records .long)
+            (vertices-ready m parents leaves body lifts sizes vertices roads parts used shown mem long (verticesFrom parts) ins places between refl (stand .records .long)
             (λ v h. stand .links v (omega (arith, long-ins, shown .sound .vertices .1))) wide none));
       }
 
   -- the rows, from the first row of each part on
-  pub rows-done : (cursors₀ cursors cursors′ after : List ℕ) → used < 4294967296 → length cursors₀ ≡ mostParts → ((p : ℕ) → p < partCount m → word mem (64 + 8 * p + 2) ≡ firstRowOf m p)
+  pub rows-done : (cursors₀ cursors cursors′ after : List ℕ) → used < 4294967296 → length cursors₀ ≡ mostParts → ((p : ℕ) → p < partCount m → word mem (partAt p + part·rows) ≡ firstRowOf m p)
       → rows-specs.FirstRows mem parts cursors₀ cursors
-      → (rows-specs.RowsReady m parents leaves lifts vertices (64 + 8 * parts) cursors mem → rows-specs.RowsStand m vertices (λ q. true) mem cursors′ after)
+      → (rows-specs.RowsReady m parents leaves lifts vertices (verticesFrom parts) cursors mem → rows-specs.RowsStand m vertices (λ q. true) mem cursors′ after)
       → RowsDone m mem after
   rows-done cursors₀ cursors cursors′ after fits wide first read then-rows =
       record {
@@ -130,6 +131,6 @@ module _ (m : Map) (parents leaves body lifts sizes : List ℕ) (vertices roads 
         rows =
             subst (λ (k : ℕ). rows-specs.RowsStand m k (λ q. true) mem cursors′ after) (shown .counted .vertex-count)
             (then-rows
-            (rows-ready m parents leaves body lifts sizes vertices roads parts used shown mem long (64 + 8 * parts) cursors fits refl (read .long ∙ wide)
+            (rows-ready m parents leaves body lifts sizes vertices roads parts used shown mem long (verticesFrom parts) cursors fits refl (read .long ∙ wide)
             (λ p h. read .first p (omega (arith, shown .counted .part-count)) (omega (arith, wide, shown .sound .parts .1, h)) ∙ first p h)));
       }

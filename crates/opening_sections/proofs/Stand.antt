@@ -9,12 +9,13 @@ use native.Mathlib.Nat.{zero-add}
 use native.Mathlib.Omega.{arith}
 use lib.ListN.{length, replicate, getD-replicate}
 use lib.Seq.{sets, length-sets}
-use Rattle.words.specs.Limits.{headMark, vans}
+use Rattle.words.specs.Limits.{vans, headWords, headMark}
 use Rattle.words.specs.Lists.{word, upTo}
 use Rattle.words.proofs.Sums.{in-record}
 use Rattle.words.proofs.Stores.{stored-join}
 use Rattle.words.proofs.Places.{entry-in, place-of-entry}
 use Rattle.words.proofs.Lists.{keep-says}
+use Rattle.layout.specs.Layout.{part·words, part·rows, vertex·words, road·words, van·words, row·words, partsAt, verticesFrom, vansFrom, partAt, partWord}
 use Rattle.roads.specs.Map.{Map, partCount, roadCount}
 use Rattle.parts.specs.Size.{rowVertices, sizeOf, need}
 use Rattle.parts.proofs.Rows.{row-vertex, rows-unique}
@@ -52,18 +53,18 @@ module _ (m : Map) (start : ℕ) where
   unfolding headPart
   head-is = ap (λ (k : ℕ). headMark ∷ need m ∷ m .vertices ∷ roadCount m ∷ partCount m ∷ k ∷ replicate 58 0) (sym (fresh-count start))
 
-  head-agrees : (mem a : List ℕ) → a ≡ sets mem 0 (headPart m (freshState start)) → 64 ≤ length mem → Agrees target 0 64 a
+  head-agrees : (mem a : List ℕ) → a ≡ sets mem 0 (headPart m (freshState start)) → headWords ≤ length mem → Agrees target 0 headWords a
   head-agrees mem a e fits =
       let sized = head-length m (freshState start) in
-      agrees-within target 0 (0 + length (headPart m (freshState start))) 0 64 a (omega arith) (omega (arith, sized))
+      agrees-within target 0 (0 + length (headPart m (freshState start))) 0 headWords a (omega arith) (omega (arith, sized))
       (stored-agrees target mem a 0 (headPart m (freshState start)) e (omega (arith, sized)) (λ j h. ap (word target) (zero-add j) ∙ head-word m (freshState start) (fresh-slots start) j (omega (arith, sized))))
 
-  parts-agree : (a b : List ℕ) → PartsStand m 0 a b → Agrees target 0 64 a → Agrees target 0 (verticesAt m) b
+  parts-agree : (a b : List ℕ) → PartsStand m 0 a b → Agrees target 0 headWords a → Agrees target 0 (verticesAt m) b
   parts-agree a b w front =
-      agrees-join target 0 64 (verticesAt m) b
-      (written-kept target 64 8 (partCount m) (partRecord m) a b w 0 64 (inl (omega arith)) front)
-      (agrees-within target 64 (64 + 8 * partCount m) 64 (verticesAt m) b (omega arith) (omega (arith, vertices-start m))
-      (written-agrees target 64 8 (partCount m) (partRecord m) a b w (λ k i hk hi. part-word m (freshState start) (fresh-slots start) k i hk hi)))
+      agrees-join target 0 headWords (verticesAt m) b
+      (written-kept target partsAt part·words (partCount m) (partRecord m) a b w 0 headWords (inl (omega arith)) front)
+      (agrees-within target partsAt (verticesFrom (partCount m)) partsAt (verticesAt m) b (omega arith) (omega (arith, vertices-start m))
+      (written-agrees target partsAt part·words (partCount m) (partRecord m) a b w (λ k i hk hi. part-word m (freshState start) (fresh-slots start) k i hk hi)))
 
   net-agrees : (b c : List ℕ) → NetStands m b c → Agrees target 0 (verticesAt m) b → Agrees target 0 (vansAt m) c
   net-agrees b c net front =
@@ -71,24 +72,24 @@ module _ (m : Map) (start : ℕ) where
       (written-kept target (verticesAt m) 8 (m .vertices) (freshVertex m) (net .between) c (net .vertices) 0 (verticesAt m) (inl (omega arith))
       (written-kept target (roadsAt m) 4 (roadCount m) (roadRecord m) b (net .between) (net .roads) 0 (verticesAt m) (inl (omega (arith, roads-start m, vertices-start m))) front))
       (agrees-join target (verticesAt m) (roadsAt m) (vansAt m) c
-      (agrees-within target (verticesAt m) (verticesAt m + 8 * m .vertices) (verticesAt m) (roadsAt m) c (omega arith) (omega (arith, roads-start m, vertices-start m))
+      (agrees-within target (verticesAt m) (verticesAt m + vertex·words * m .vertices) (verticesAt m) (roadsAt m) c (omega arith) (omega (arith, roads-start m, vertices-start m))
       (written-agrees target (verticesAt m) 8 (m .vertices) (freshVertex m) (net .between) c (net .vertices)
       (λ k i hk hi. vertex-word m (freshState start) (fresh-slots start) k i hk hi ∙ ap (λ (l : List ℕ). word l i) (fresh-vertex m start k))))
       (written-kept target (verticesAt m) 8 (m .vertices) (freshVertex m) (net .between) c (net .vertices) (roadsAt m) (vansAt m) (inr (omega (arith, roads-start m, vertices-start m)))
-      (agrees-within target (roadsAt m) (roadsAt m + 4 * roadCount m) (roadsAt m) (vansAt m) (net .between) (omega arith) (omega (arith, vans-start m))
+      (agrees-within target (roadsAt m) (roadsAt m + road·words * roadCount m) (roadsAt m) (vansAt m) (net .between) (omega arith) (omega (arith, vans-start m))
       (written-agrees target (roadsAt m) 4 (roadCount m) (roadRecord m) b (net .between) (net .roads) (λ k i hk hi. road-word m (freshState start) (fresh-slots start) k i hk hi)))))
 
   -- no van is present
-  van-none : (j : ℕ) → j < 8 * vans → word target (vansAt m + j) ≡ 0
+  van-none : (j : ℕ) → j < van·words * vans → word target (vansAt m + j) ≡ 0
   van-none j h =
-      let found = in-record 8 vans j h in
-      let place : vansAt m + j ≡ vansAt m + 8 * found .number + found .at = omega (arith, found .is-sum) in
+      let found = in-record van·words vans j h in
+      let place : vansAt m + j ≡ vansAt m + van·words * found .number + found .at = omega (arith, found .is-sum) in
       ap (word target) place
       ∙ van-word m (freshState start) (fresh-slots start) (found .number) (found .at) (found .is-record) (found .is-within)
       ∙ ap (λ (l : List ℕ). word l (found .at)) (fresh-van m start (found .number) (found .is-record))
       ∙ getD-replicate 8 (found .at) 0 0 (found .is-within)
 
-  vans-agree : (c d : List ℕ) (n : ℕ) → n ≡ 8 * vans → d ≡ cleared c (vansAt m) n → tablesAt m ≤ length c → Agrees target 0 (vansAt m) c → Agrees target 0 (tablesAt m) d
+  vans-agree : (c d : List ℕ) (n : ℕ) → n ≡ van·words * vans → d ≡ cleared c (vansAt m) n → tablesAt m ≤ length c → Agrees target 0 (vansAt m) c → Agrees target 0 (tablesAt m) d
   vans-agree c d n all e fits front =
       agrees-join target 0 (vansAt m) (tablesAt m) d
       (cleared-kept target c d (vansAt m) n e 0 (vansAt m) (inl (omega arith)) front)
@@ -98,13 +99,13 @@ module _ (m : Map) (start : ℕ) where
   -- the sections before the tables
   module _ (parents leaves body lifts sizes : List ℕ) (vertices roads parts used : ℕ) (shown : MapShown m parents leaves body lifts sizes vertices roads parts used) where
     pub front-stands : (mem a b c d : List ℕ) (n : ℕ) → length mem ≡ used → a ≡ sets mem 0 (headRecord used vertices roads parts start) → PartsStand m 0 a b → NetStands m b c
-        → n ≡ 8 * vans → d ≡ cleared c (64 + 8 * parts + 8 * vertices + 4 * roads) n → Agrees target 0 (tablesAt m) d
+        → n ≡ van·words * vans → d ≡ cleared c (vansFrom parts vertices roads) n → Agrees target 0 (tablesAt m) d
     front-stands mem a b c d n long e w net all f =
         vans-agree c d n all (f ∙ ap (λ (k : ℕ). cleared c k n) here) (omega (arith, same-length, shown .counted .need-is, rows-end m, rows-start m))
         (net-agrees b c net
         (parts-agree a b w (head-agrees mem a (e ∙ ap (sets mem 0) (same-head ∙ head-is)) (omega (arith, long, shown .counted .need-is, rows-end m, rows-start m, tables-start m)))))
       where
-        here : 64 + 8 * parts + 8 * vertices + 4 * roads ≡ vansAt m
+        here : vansFrom parts vertices roads ≡ vansAt m
         here = omega (arith, vans-start m, roads-start m, shown .counted .part-count, shown .counted .vertex-count, shown .counted .road-count)
 
         same-head : headRecord used vertices roads parts start ≡ headRecord (need m) (m .vertices) (roadCount m) (partCount m) start
@@ -115,13 +116,13 @@ module _ (m : Map) (start : ℕ) where
             net .vertices .long ∙ net .roads .long ∙ w .long ∙ ap length e ∙ length-sets mem 0 (headRecord used vertices roads parts start) ∙ long
 
   -- the parts show where their rows begin
-  pub first-row-stands : (d : List ℕ) → Agrees target 0 (tablesAt m) d → (p : ℕ) → p < partCount m → word d (64 + 8 * p + 2) ≡ firstRowOf m p
+  pub first-row-stands : (d : List ℕ) → Agrees target 0 (tablesAt m) d → (p : ℕ) → p < partCount m → partWord d p part·rows ≡ firstRowOf m p
   unfolding partRecord
   first-row-stands d front p h =
-      front .at (64 + 8 * p + 2) (omega arith) (omega (arith, tables-start m, vans-start m, roads-start m)) ∙ part-word m (freshState start) (fresh-slots start) p 2 h (omega arith)
+      front .at (partAt p + part·rows) (omega arith) (omega (arith, tables-start m, vans-start m, roads-start m)) ∙ part-word m (freshState start) (fresh-slots start) p 2 h (omega arith)
 
   -- row i of part p
-  row-stands : (d e : List ℕ) → RowsDone m d e → (p i w : ℕ) → p < partCount m → i < sizeOf m p → w < 4 → word e (firstRowOf m p + 4 * i + w) ≡ word target (firstRowOf m p + 4 * i + w)
+  row-stands : (d e : List ℕ) → RowsDone m d e → (p i w : ℕ) → p < partCount m → i < sizeOf m p → w < row·words → word e (firstRowOf m p + row·words * i + w) ≡ word target (firstRowOf m p + row·words * i + w)
   unfolding sizeOf rowAt
   row-stands d e done p i w hp hi hw =
       ap (λ (k : ℕ). word e (k + w)) (sym place)
@@ -140,8 +141,8 @@ module _ (m : Map) (start : ℕ) where
       has : hasRow m p v ≡ true
       has = keep-says (hasRow m p) (upTo (m .vertices)) v (subst (λ (l : List ℕ). List·Memᴰ v l) (rows-kept m p) in-rows) .1
 
-      place : rowPlace m p v ≡ firstRowOf m p + 4 * i
-      place = sym (place-row m p v vertex has) ∙ ap (λ (k : ℕ). firstRowOf m p + 4 * k) (place-of-entry (rows-unique m p) i hi)
+      place : rowPlace m p v ≡ firstRowOf m p + row·words * i
+      place = sym (place-row m p v vertex has) ∙ ap (λ (k : ℕ). firstRowOf m p + row·words * k) (place-of-entry (rows-unique m p) i hi)
 
   pub sections-stand : (d e : List ℕ) → length d ≡ need m → Agrees target 0 (tablesAt m) d → RowsDone m d e → Sections m start e
   sections-stand d e long front done =

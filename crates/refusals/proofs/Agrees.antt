@@ -26,32 +26,32 @@ use Rattle.refusals.specs.declared.Verdict.the-variants.{Refuse, Stand}
 use Rattle.refusals.specs.Verdict.{weightIn, placing, adding, moving, removing, claiming, releasing, OnRoad, HasVerdict}
 
 -- a refusal is the definitions' refusal; a van that is to stand is refused by the change count alone, and stands as the definitions say
-abbrev pub Agrees : Map → State → Change → Verdict → Type 0
-Agrees m s c (Refuse r) = (k : ℕ) × (refusalOf m s c ≡ suc k) × (answered r ≡ refused (suc k))
-Agrees m s c (Stand w) = (refusalOf m s c ≡ (15 unless countLeft s then 0)) × ((stamp : ℕ) → stamped w stamp ≡ standingWords (slotAfter m c stamp (slotOf s (vanOf c))))
+abbrev pub VerdictAgrees : Map → State → Change → Verdict → Type 0
+VerdictAgrees m s c (Refuse r) = (k : ℕ) × (refusalOf m s c ≡ suc k) × (answered r ≡ refused (suc k))
+VerdictAgrees m s c (Stand w) = (refusalOf m s c ≡ (15 unless countLeft s then 0)) × ((stamp : ℕ) → stamped w stamp ≡ standingWords (slotAfter m c stamp (slotOf s (vanOf c))))
 
 -- a van that is there keeps its words but for the stamp
 stamped-suc : (h road offset old stamp : ℕ) → _≡_ {A = VanWords} (stamped (record { state = suc h; road = road; offset = offset; stamp = old }) stamp) (record { state = suc h; road = road; offset = offset; stamp = stamp })
 stamped-suc h road offset old stamp = rw (ne-eqb (suc h) 0 (omega arith))
 
 module _ (m : Map) (s : State) (c : Change) where
-  agrees-by : (verdict is : Verdict) → verdict ≡ is → Agrees m s c is → Agrees m s c verdict
-  agrees-by verdict is e a = subst⁻¹ (Agrees m s c) e a
+  agrees-by : (verdict is : Verdict) → verdict ≡ is → VerdictAgrees m s c is → VerdictAgrees m s c verdict
+  agrees-by verdict is e a = subst⁻¹ (VerdictAgrees m s c) e a
 
   -- on a road: what is left to refuse is the road, the offset and the count
   placing-agrees : (state u v offset roads road weight : ℕ) → road ≡ roadBetween (m .roads) u v → roads ≡ roadCount m → (road < roads → weight ≡ roadAt m road .weight)
       → refusalOf m s c ≡ (10 unless isRoad m u v then 11 unless offsetFits m u v offset then 15 unless countLeft s then 0)
       → ((stamp : ℕ) → stamped (record { state = state; road = road; offset = offset; stamp = 0 }) stamp ≡ standingWords (slotAfter m c stamp (slotOf s (vanOf c))))
-      → Agrees m s c (placing state roads road weight offset)
+      → VerdictAgrees m s c (placing state roads road weight offset)
   placing-agrees state u v offset roads road weight found all weighs refusal stands =
       elim (decLt road roads) [ yes there ↦ on-road there | no none ↦ off-road none ]
     where
-      off-road : ¬ (road < roads) → Agrees m s c (placing state roads road weight offset)
+      off-road : ¬ (road < roads) → VerdictAgrees m s c (placing state roads road weight offset)
       off-road none =
           let no-road : isRoad m u v ≡ false = le-ltb _ (roadCount m) (omega (arith, found, all)) in
           rw (le-leb roads road (omega arith)) (9, refusal ∙ simp no-road, refl)
 
-      on-road : road < roads → Agrees m s c (placing state roads road weight offset)
+      on-road : road < roads → VerdictAgrees m s c (placing state roads road weight offset)
       on-road there = elim (decLt weight offset) [ yes far ↦ too-far far | no near ↦ in-place near ]
         where
           is-road : isRoad m u v ≡ true
@@ -60,12 +60,12 @@ module _ (m : Map) (s : State) (c : Change) where
           weight-is : weight ≡ roadAt m (roadBetween (m .roads) u v) .weight
           weight-is = weighs there ∙ ap (λ (k : ℕ). roadAt m k .weight) found
 
-          too-far : weight < offset → Agrees m s c (placing state roads road weight offset)
+          too-far : weight < offset → VerdictAgrees m s c (placing state roads road weight offset)
           too-far far =
               let above : offsetFits m u v offset ≡ false = lt-leb offset _ (omega (arith, weight-is)) in
               rw (lt-leb roads road there, lt-ltb weight offset far) (10, refusal ∙ simp (is-road, above), refl)
 
-          in-place : ¬ (weight < offset) → Agrees m s c (placing state roads road weight offset)
+          in-place : ¬ (weight < offset) → VerdictAgrees m s c (placing state roads road weight offset)
           in-place near =
               let fits : offsetFits m u v offset ≡ true = le-leb offset _ (omega (arith, weight-is)) in
               rw (lt-leb roads road there, le-ltb weight offset (omega arith)) (refusal ∙ simp (is-road, fits), stands)
@@ -81,7 +81,7 @@ module _ (m : Map) (s : State) (mem : List ℕ) (counts : Counts) (sound : Sound
   weight-there road h = weights road (omega (arith, stand .roads))
 
   add-agrees : (van u v offset : ℕ) (slot : Slot) → slotOf s van ≡ slot → inRange (Add van u v offset) ≡ true → (verdict : Verdict)
-      → OnRoad mem counts u v (λ road weight. adding (standingWords slot) (counts .roads) road weight offset) verdict → Agrees m s (Add van u v offset) verdict
+      → OnRoad mem counts u v (λ road weight. adding (standingWords slot) (counts .roads) road weight offset) verdict → VerdictAgrees m s (Add van u v offset) verdict
   unfolding refusalOf slotAfter
   add-agrees van u v offset (present w) is ok verdict j =
       let there : isPresent (slotOf s van) ≡ true = ap isPresent is in
@@ -94,7 +94,7 @@ module _ (m : Map) (s : State) (mem : List ℕ) (counts : Counts) (sound : Sound
       (simp (ok, none)) (λ stamp. rw (is, found) (stamped-suc 0 (roadBetween (m .roads) u v) offset 0 stamp)))
 
   move-agrees : (van u v offset : ℕ) (slot : Slot) → slotOf s van ≡ slot → inRange (Move van u v offset) ≡ true → (verdict : Verdict)
-      → OnRoad mem counts u v (λ road weight. moving (standingWords slot) (counts .roads) road weight offset) verdict → Agrees m s (Move van u v offset) verdict
+      → OnRoad mem counts u v (λ road weight. moving (standingWords slot) (counts .roads) road weight offset) verdict → VerdictAgrees m s (Move van u v offset) verdict
   unfolding refusalOf slotAfter
   move-agrees van u v offset absent is ok verdict j =
       let none : isPresent (slotOf s van) ≡ false = ap isPresent is in
@@ -107,7 +107,7 @@ module _ (m : Map) (s : State) (mem : List ℕ) (counts : Counts) (sound : Sound
       (simp (ok, there)) (λ stamp. rw (is, found) (stamped-suc (w .holder) (roadBetween (m .roads) u v) offset 0 stamp))))
 
 module _ (m : Map) (s : State) where
-  remove-agrees : (van : ℕ) (slot : Slot) → slotOf s van ≡ slot → inRange (Remove van) ≡ true → Agrees m s (Remove van) (removing (standingWords slot))
+  remove-agrees : (van : ℕ) (slot : Slot) → slotOf s van ≡ slot → inRange (Remove van) ≡ true → VerdictAgrees m s (Remove van) (removing (standingWords slot))
   unfolding refusalOf slotAfter
   remove-agrees van absent is ok =
       let none : isPresent (slotOf s van) ≡ false = ap isPresent is in
@@ -117,17 +117,17 @@ module _ (m : Map) (s : State) where
       there : isPresent (slotOf s van) ≡ true
       there = ap isPresent is
 
-      goes : w .holder ≡ 0 → Agrees m s (Remove van) (removing (standingWords (present w)))
+      goes : w .holder ≡ 0 → VerdictAgrees m s (Remove van) (removing (standingWords (present w)))
       goes free =
           let is-free : isFree (slotOf s van) ≡ true = ap isFree is ∙ eq-eqb (w .holder) 0 free in
           rw (not-none w, le-ltb 1 (suc (w .holder)) (omega arith)) (simp (ok, there, is-free), λ stamp. refl)
 
-      stays : (w .holder ≡ 0 → ⊥) → Agrees m s (Remove van) (removing (standingWords (present w)))
+      stays : (w .holder ≡ 0 → ⊥) → VerdictAgrees m s (Remove van) (removing (standingWords (present w)))
       stays held =
           let not-free : isFree (slotOf s van) ≡ false = ap isFree is ∙ ne-eqb (w .holder) 0 held in
           rw (not-none w, lt-ltb 1 (suc (w .holder)) (omega arith)) (11, simp (ok, there, not-free), refl)
 
-  claim-agrees : (van stamp desk : ℕ) (slot : Slot) → slotOf s van ≡ slot → inRange (Claim van stamp desk) ≡ true → Agrees m s (Claim van stamp desk) (claiming (standingWords slot) stamp desk)
+  claim-agrees : (van stamp desk : ℕ) (slot : Slot) → slotOf s van ≡ slot → inRange (Claim van stamp desk) ≡ true → VerdictAgrees m s (Claim van stamp desk) (claiming (standingWords slot) stamp desk)
   unfolding refusalOf slotAfter
   claim-agrees van stamp desk absent is ok =
       let none : isPresent (slotOf s van) ≡ false = ap isPresent is in
@@ -140,24 +140,24 @@ module _ (m : Map) (s : State) where
       free-test : w .holder ≡ 0 → isFree (slotOf s van) ≡ true
       free-test free = ap isFree is ∙ eq-eqb (w .holder) 0 free
 
-      taken : w .holder ≡ 0 → w .stamp ≡ stamp → Agrees m s (Claim van stamp desk) (claiming (standingWords (present w)) stamp desk)
+      taken : w .holder ≡ 0 → w .stamp ≡ stamp → VerdictAgrees m s (Claim van stamp desk) (claiming (standingWords (present w)) stamp desk)
       taken free same =
           let has : hasStamp stamp (slotOf s van) ≡ true = ap (hasStamp stamp) is ∙ eq-eqb (w .stamp) stamp same in
           rw (not-none w, eq-eqb (suc (w .holder)) 1 (omega arith), eq-eqb (w .stamp) stamp same)
           (simp (ok, there, free-test free, has), λ new. rw (is, add-one desk) (stamped-suc desk (w .road) (w .offset) 0 new))
 
-      late : w .holder ≡ 0 → (w .stamp ≡ stamp → ⊥) → Agrees m s (Claim van stamp desk) (claiming (standingWords (present w)) stamp desk)
+      late : w .holder ≡ 0 → (w .stamp ≡ stamp → ⊥) → VerdictAgrees m s (Claim van stamp desk) (claiming (standingWords (present w)) stamp desk)
       late free other =
           let has-not : hasStamp stamp (slotOf s van) ≡ false = ap (hasStamp stamp) is ∙ ne-eqb (w .stamp) stamp other in
           rw (not-none w, eq-eqb (suc (w .holder)) 1 (omega arith), ne-eqb (w .stamp) stamp other)
           (13, simp (ok, there, free-test free, has-not), refl)
 
-      stays : (w .holder ≡ 0 → ⊥) → Agrees m s (Claim van stamp desk) (claiming (standingWords (present w)) stamp desk)
+      stays : (w .holder ≡ 0 → ⊥) → VerdictAgrees m s (Claim van stamp desk) (claiming (standingWords (present w)) stamp desk)
       stays held =
           let not-free : isFree (slotOf s van) ≡ false = ap isFree is ∙ ne-eqb (w .holder) 0 held in
           rw (not-none w, ne-eqb (suc (w .holder)) 1 (omega arith)) (11, simp (ok, there, not-free), refl)
 
-  release-agrees : (van desk : ℕ) (slot : Slot) → slotOf s van ≡ slot → inRange (Release van desk) ≡ true → Agrees m s (Release van desk) (releasing (standingWords slot) desk)
+  release-agrees : (van desk : ℕ) (slot : Slot) → slotOf s van ≡ slot → inRange (Release van desk) ≡ true → VerdictAgrees m s (Release van desk) (releasing (standingWords slot) desk)
   unfolding refusalOf slotAfter
   release-agrees van desk absent is ok =
       let none : isPresent (slotOf s van) ≡ false = ap isPresent is in
@@ -167,13 +167,13 @@ module _ (m : Map) (s : State) where
       there : isPresent (slotOf s van) ≡ true
       there = ap isPresent is
 
-      freed : w .holder ≡ desk → Agrees m s (Release van desk) (releasing (standingWords (present w)) desk)
+      freed : w .holder ≡ desk → VerdictAgrees m s (Release van desk) (releasing (standingWords (present w)) desk)
       freed same =
           let holds : isHeldBy desk (slotOf s van) ≡ true = ap (isHeldBy desk) is ∙ eq-eqb (w .holder) desk same in
           rw (not-none w, eq-eqb (suc (w .holder)) (desk + 1) (omega arith))
           (simp (ok, there, holds), λ new. rw is (stamped-suc 0 (w .road) (w .offset) 0 new))
 
-      stays : (w .holder ≡ desk → ⊥) → Agrees m s (Release van desk) (releasing (standingWords (present w)) desk)
+      stays : (w .holder ≡ desk → ⊥) → VerdictAgrees m s (Release van desk) (releasing (standingWords (present w)) desk)
       stays other =
           let holds-not : isHeldBy desk (slotOf s van) ≡ false = ap (isHeldBy desk) is ∙ ne-eqb (w .holder) desk other in
           rw (not-none w, ne-eqb (suc (w .holder)) (desk + 1) (omega arith)) (12, simp (ok, there, holds-not), refl)
@@ -181,7 +181,7 @@ module _ (m : Map) (s : State) where
 -- every kind of change
 pub agrees : (m : Map) (s : State) (mem : List ℕ) (counts : Counts) → Sound m → RoadsKnown m counts mem
     → ((i : ℕ) → i < roadCount m → weightIn mem counts i ≡ roadAt m i .weight)
-    → (c : Change) → inRange c ≡ true → (verdict : Verdict) → HasVerdict mem counts (standingWords (slotOf s (vanOf c))) c verdict → Agrees m s c verdict
+    → (c : Change) → inRange c ≡ true → (verdict : Verdict) → HasVerdict mem counts (standingWords (slotOf s (vanOf c))) c verdict → VerdictAgrees m s c verdict
 agrees m s mem counts sound stand weights (Add van u v offset) ok verdict j = add-agrees m s mem counts sound stand weights van u v offset (slotOf s van) refl ok verdict j
 agrees m s mem counts sound stand weights (Move van u v offset) ok verdict j = move-agrees m s mem counts sound stand weights van u v offset (slotOf s van) refl ok verdict j
 agrees m s mem counts sound stand weights (Remove van) ok verdict j = agrees-by m s (Remove van) verdict _ j (remove-agrees m s van (slotOf s van) refl ok)

@@ -13,6 +13,7 @@ use borrow.Author.Tests.{lt-ltb, le-ltb}
 use Rattle.words.specs.Limits.{FAR}
 use Rattle.words.specs.Lists.{word, upTo, countFrom, keep}
 use Rattle.words.proofs.Lists.{countFrom-below, keep-says}
+use Rattle.layout.specs.Layout.{row·words}
 use Rattle.rows.specs.declared.Row.{Row}
 use Rattle.rows.specs.Row.{emptyRow, nearer}
 use Rattle.rows.specs.Refresh.{onward}
@@ -73,7 +74,7 @@ module _ (rows size table : ℕ) (from : ℕ → Row) (far : ℕ → ℕ → ℕ
 
   module _ (first : List ℕ) (facts : Facts rows size table from far first) where
     abbrev reaching : ℕ → Bool
-    reaching i = ltb (sourceIn first (rows + 4 * i) .distance) FAR
+    reaching i = ltb (sourceIn first (rows + row·words * i) .distance) FAR
 
     number : (i : ℕ) → List·Memᴰ i (upTo size) → i < size
     number i h = omega (arith, countFrom-below 0 size i h)
@@ -109,7 +110,7 @@ module _ (rows size table : ℕ) (from : ℕ → Row) (far : ℕ → ℕ → ℕ
     abbrev leftBy : ℕ → Row → Row
     leftBy j row = cond (chosen j) (anew j) row
 
-    renewed-from : (left i : ℕ) (mem : List ℕ) → i + left ≡ size → rows + 4 * size ≤ length mem → Kept rows size first mem
+    renewed-from : (left i : ℕ) (mem : List ℕ) → i + left ≡ size → rows + row·words * size ≤ length mem → Kept rows size first mem
         → Swept rows size table from far leftBy i mem (renewed (keep chosen (countFrom i left)) mem keys steps rows table)
     unfolding renewed
     renewed-from zero i mem all long kept = swept-none rows size table from far leftBy mem i (omega arith)
@@ -121,10 +122,10 @@ module _ (rows size table : ℕ) (from : ℕ → Row) (far : ℕ → ℕ → ℕ
         hi = omega arith
 
         next : List ℕ
-        next = shown mem (rows + 4 * i) (unkeyed (gathered keys steps mem (table + i) farKey))
+        next = shown mem (rows + row·words * i) (unkeyed (gathered keys steps mem (table + i) farKey))
 
-        is-anew : rowIn next (rows + 4 * i) ≡ anew i
-        is-anew = shown-row mem (rows + 4 * i) (unkeyed (gathered keys steps mem (table + i) farKey)) (omega arith) ∙ gathers mem kept i hi
+        is-anew : rowIn next (rows + row·words * i) ≡ anew i
+        is-anew = shown-row mem (rows + row·words * i) (unkeyed (gathered keys steps mem (table + i) farKey)) (omega arith) ∙ gathers mem kept i hi
 
         one : OneRow rows size i mem next
         one = one-shown rows size i hi mem (unkeyed (gathered keys steps mem (table + i) farKey))
@@ -137,17 +138,17 @@ module _ (rows size table : ℕ) (from : ℕ → Row) (far : ℕ → ℕ → ℕ
             → Swept rows size table from far leftBy i mem (renewed (cond b (i ∷ rest) rest) mem keys steps rows table)
         by true e later still =
             swept-step rows size table from far leftBy i mem next (renewed rest next keys steps rows table) one
-            (is-anew ∙ sym (ap (λ (b : Bool). cond b (anew i) (rowIn mem (rows + 4 * i))) e)) later
+            (is-anew ∙ sym (ap (λ (b : Bool). cond b (anew i) (rowIn mem (rows + row·words * i))) e)) later
         by false e later still =
             swept-step rows size table from far leftBy i mem mem (renewed rest mem keys steps rows table) (one-self rows size i hi mem)
-            (sym (ap (λ (b : Bool). cond b (anew i) (rowIn mem (rows + 4 * i))) e)) still
+            (sym (ap (λ (b : Bool). cond b (anew i) (rowIn mem (rows + row·words * i))) e)) still
 
   pub departed-rows : (v : ℕ) (mem : List ℕ) → Ready rows size table from far mem
-      → Rows rows size table from far (λ j. cond (eqb (rowIn mem (rows + 4 * j) .vertex) v) (anew j) (rowIn mem (rows + 4 * j))) mem (departed mem rows table size v)
+      → Rows rows size table from far (λ j. cond (eqb (rowIn mem (rows + row·words * j) .vertex) v) (anew j) (rowIn mem (rows + row·words * j))) mem (departed mem rows table size v)
   unfolding remade showing showsIn
   departed-rows v mem ready =
       let whole =
-      renewed-from (λ i. eqb (word mem (rows + 4 * i)) v) mem (map (sourceKey mem rows) (filled mem rows size)) (map (λ i. size * i) (filled mem rows size)) gathers size 0 mem (omega arith) (ready .fits) (kept-self rows size mem)
+      renewed-from (λ i. eqb (word mem (rows + row·words * i)) v) mem (map (sourceKey mem rows) (filled mem rows size)) (map (λ i. size * i) (filled mem rows size)) gathers size 0 mem (omega arith) (ready .fits) (kept-self rows size mem)
       in
       record { kept = whole .kept; shows = λ j h. whole .shows j (omega arith) h }
     where

@@ -42,7 +42,7 @@ use Rattle.row_memory.specs.Kept.{Kept}
 use Rattle.row_memory.specs.Laid.{Few, LaidForRows, RowsShow}
 use Rattle.row_memory.proofs.Apart.{rows-last, table-last, table-before, part-before, itself-before, early, beside}
 use Rattle.row_memory.proofs.Offered.{Plain}
-use Rattle.row_memory.proofs.OnePart.{Ready, Triangle, Closed, arrived-rows, arrived-none}
+use Rattle.row_memory.proofs.OnePart.{Ready, Triangle, RowsClosed, arrived-rows, arrived-none}
 use Rattle.row_memory.proofs.Departure.{Fits, departed-rows, departed-none}
 
 -- A fold over the entries' numbers.
@@ -180,7 +180,7 @@ module _ (m : Map) (net : Net m) (tree : Tree m) (p : ℕ) (hp : p < partCount m
         ∙ arrived-none (firstRowOf m p) (sizeOf m p) (tableOf m p) (λ i. emptyRow) (λ i j. 0) v (led (showing mem (firstRowOf m p) (sizeOf m p) v true) mem (firstRowOf m p)) mem (sym (here-touched true) ∙ none)
     untouched false none = here false ∙ departed-none mem (firstRowOf m p) (tableOf m p) (sizeOf m p) v (sym (here-touched false) ∙ none)
 
-    closed : Closed (firstRowOf m p) (sizeOf m p) (tableOf m p) (λ i. source m after p (rowVertex m p i)) (λ i j. dist m (rowVertex m p i) (rowVertex m p j)) mem
+    closed : RowsClosed (firstRowOf m p) (sizeOf m p) (tableOf m p) (λ i. source m after p (rowVertex m p i)) (λ i j. dist m (rowVertex m p i) (rowVertex m p j)) mem
     closed i j hi hj =
         subst⁻¹ (λ (k : Row). RowLe k (onward (rowIn mem (firstRowOf m p + row·words * i)) (dist m (rowVertex m p i) (rowVertex m p j)))) (shows j hj)
         (subst⁻¹ (λ (k : Row). RowLe (rowOf m before p (rowVertex m p j)) (onward k (dist m (rowVertex m p i) (rowVertex m p j)))) (shows i hi)

@@ -11,6 +11,7 @@ use lib.Seq.{getD-set-same, getD-set-other}
 use borrow.Author.Tests.{lt-ltb, le-ltb, ne-eqb}
 use Rattle.words.specs.Limits.{FAR}
 use Rattle.words.specs.Lists.{word}
+use Rattle.layout.specs.Layout.{row·words}
 use Rattle.rows.specs.declared.Row.{Row}
 use Rattle.rows.specs.Row.{emptyRow, nearer}
 use Rattle.rows.specs.Refresh.{onward}
@@ -81,7 +82,7 @@ module _ (mem : List ℕ) (to v x d : ℕ) where
 -- Only row i of a part's rows changed.
 pub record OneRow (rows size i : ℕ) (mem after : List ℕ) : Type 0 where
   pub kept : Kept rows size mem after
-  pub others : (k : ℕ) → k ≢ i → rowIn after (rows + 4 * k) ≡ rowIn mem (rows + 4 * k)
+  pub others : (k : ℕ) → k ≢ i → rowIn after (rows + row·words * k) ≡ rowIn mem (rows + row·words * k)
 
 module _ (rows size : ℕ) where
   pub kept-self : (mem : List ℕ) → Kept rows size mem mem
@@ -92,23 +93,23 @@ module _ (rows size : ℕ) where
 
   module _ (i : ℕ) (hi : i < size) where
     -- what writes no other words than the two of row i
-    one-row : (mem after : List ℕ) → length after ≡ length mem → ((a : ℕ) → (a ≡ rows + 4 * i → ⊥) → (a ≡ rows + 4 * i + 1 → ⊥) → word after a ≡ word mem a)
+    one-row : (mem after : List ℕ) → length after ≡ length mem → ((a : ℕ) → (a ≡ rows + row·words * i → ⊥) → (a ≡ rows + row·words * i + 1 → ⊥) → word after a ≡ word mem a)
         → OneRow rows size i mem after
     one-row mem after long words =
         record {
           kept = record { long = long; outside = λ a out. words a (out i hi .0) (out i hi .1) };
           others =
               λ k other.
-              let p : word after (rows + 4 * k) ≡ word mem (rows + 4 * k) = words (rows + 4 * k) (λ e. other (omega arith)) (λ e. omega arith) in
-              let q : word after (rows + 4 * k + 1) ≡ word mem (rows + 4 * k + 1) = words (rows + 4 * k + 1) (λ e. omega arith) (λ e. other (omega arith)) in
+              let p : word after (rows + row·words * k) ≡ word mem (rows + row·words * k) = words (rows + row·words * k) (λ e. other (omega arith)) (λ e. omega arith) in
+              let q : word after (rows + row·words * k + 1) ≡ word mem (rows + row·words * k + 1) = words (rows + row·words * k + 1) (λ e. omega arith) (λ e. other (omega arith)) in
               λ t. record { vertex = p t; distance = q t };
         }
 
-    pub one-offered : (mem : List ℕ) (v x d : ℕ) → OneRow rows size i mem (offered mem (rows + 4 * i) v x d)
-    one-offered mem v x d = one-row mem (offered mem (rows + 4 * i) v x d) (offered-length mem (rows + 4 * i) v x d) (offered-word mem (rows + 4 * i) v x d)
+    pub one-offered : (mem : List ℕ) (v x d : ℕ) → OneRow rows size i mem (offered mem (rows + row·words * i) v x d)
+    one-offered mem v x d = one-row mem (offered mem (rows + row·words * i) v x d) (offered-length mem (rows + row·words * i) v x d) (offered-word mem (rows + row·words * i) v x d)
 
-    pub one-shown : (mem : List ℕ) (row : Row) → OneRow rows size i mem (shown mem (rows + 4 * i) row)
-    one-shown mem row = one-row mem (shown mem (rows + 4 * i) row) (shown-length mem (rows + 4 * i) row) (shown-others mem (rows + 4 * i) row)
+    pub one-shown : (mem : List ℕ) (row : Row) → OneRow rows size i mem (shown mem (rows + row·words * i) row)
+    one-shown mem row = one-row mem (shown mem (rows + row·words * i) row) (shown-length mem (rows + row·words * i) row) (shown-others mem (rows + row·words * i) row)
 
     pub one-self : (mem : List ℕ) → OneRow rows size i mem mem
     one-self mem = record { kept = kept-self mem; others = λ k other. refl }

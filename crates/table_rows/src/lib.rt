@@ -6,9 +6,13 @@ ghost use lib.ListN.{length, getD};
 ghost use Rattle.words.specs.Limits.{mostBorders, FAR};
 ghost use Rattle.table_rows.specs.Flat.{entry, through, blank, Holds, StartsWith, Begins, Tried, Blanked};
 use cells::wide;
+use far_sums::FAR;
+
+// As many nodes as a part has rows.
+const MOST_NODES: usize = 128;
 
 // The lesser of `t` and `x + d`, which is added only where it fits.
-fn lesser(t: u32, x: u32, d: u32) -> u32
+fn lesser_sum(t: u32, x: u32, d: u32) -> u32
     ensures { λ r. ⌜ r ≡ min t (x + d) ⌝ }
 {
     if x < t {
@@ -24,13 +28,13 @@ fn relax_row(best: &mut [u32], row: &[u32], x: u32)
     requires { ⌜ length (now best) ≤ length (now row) ⌝ }
     ensures { λ r. ⌜ Begins (length (now (best .entry))) (λ j. min (getD (now (best .entry)) j 0) (x + getD (now (row .entry)) j 0)) (now (best .entry)) (now (best .exit)) ⌝ }
 {
-    if x == 4294967295 {
+    if x == FAR {
         return;
     }
     let n = best.len();
     let mut i = 0;
     while i < n {
-        best[i] = lesser(best[i], x, row[i]);
+        best[i] = lesser_sum(best[i], x, row[i]);
         i += 1;
     }
 }
@@ -82,7 +86,7 @@ fn fill_far(row: &mut [u32])
     let n = row.len();
     let mut i = 0;
     while i < n {
-        row[i] = 4294967295;
+        row[i] = FAR;
         i += 1;
     }
 }
@@ -109,7 +113,7 @@ pub fn try_at(mem: &mut [u32], at: u32, n: u32, k: u32)
     let size = wide(n);
     let node = wide(k);
     let from = wide(at);
-    if size <= 128 {
+    if size <= MOST_NODES {
         if node < size {
             let end = from + size * size;
             if end <= mem.len() {
@@ -125,7 +129,7 @@ pub fn blank_at(mem: &mut [u32], at: u32, n: u32)
 {
     let size = wide(n);
     let from = wide(at);
-    if size <= 128 {
+    if size <= MOST_NODES {
         let end = from + size * size;
         if end <= mem.len() {
             blank_table(&mut mem[from..end], size);

@@ -1,5 +1,5 @@
 //! `include/hailtrellis.h` says what the wrapper says: the refusals by name, number and words, the limits, the reply's fields, and each
-//! function's parameters in their order. The proved code's own list of refusals has the same words in the same order.
+//! function's parameters in their order. The proved code's own list of refusals has the same names and words in the same order.
 
 use hailtrellis::{Desk, Engine, Refusal, Stamp, Van, Vertex};
 use std::collections::BTreeMap;
@@ -112,21 +112,28 @@ fn the_refusals_have_the_wrappers_names_and_numbers() {
 }
 
 #[test]
-fn the_refusals_have_the_cores_words_in_its_order() {
+fn the_refusals_have_the_cores_names_and_words_in_its_order() {
     let code = file("crates/answers/src/lib.rt");
     let cases = between(&code, "pub enum Reply {", "\n}");
-    let words = cases
-        .lines()
-        .filter_map(|line| line.trim().strip_prefix("// "));
-    let words: Vec<String> = words.skip(1).map(|words| words.replace('×', "*")).collect();
-    let mut refusals: Vec<(u32, String)> = constants(&file("include/hailtrellis.h"))
-        .into_values()
-        .filter(|(_, words)| !words.is_empty())
+    let lines: Vec<&str> = cases.lines().map(str::trim).collect();
+    let core: Vec<(String, String)> = lines
+        .windows(2)
+        .filter_map(|pair| Some((pair[0].strip_prefix("// ")?, pair[1].strip_suffix(',')?)))
+        .skip(1)
+        .map(|(words, name)| (capitals(name), words.replace('×', "*")))
+        .collect();
+    let mut refusals: Vec<(u32, String, String)> = constants(&file("include/hailtrellis.h"))
+        .into_iter()
+        .filter(|(_, (_, words))| !words.is_empty())
+        .map(|(name, (number, words))| (number, name, words))
         .collect();
     refusals.sort();
     assert_eq!(refusals.len(), Refusal::ALL.len());
-    let in_order: Vec<String> = refusals.into_iter().map(|(_, words)| words).collect();
-    assert_eq!(in_order, words);
+    let in_order: Vec<(String, String)> = refusals
+        .into_iter()
+        .map(|(_, name, words)| (name, words))
+        .collect();
+    assert_eq!(in_order, core);
 }
 
 #[test]

@@ -401,3 +401,16 @@ pub fn of_crates(text: &str) -> Result<String, String> {
     draw_pointing(&mut svg, &layers, &places);
     Ok(svg.finished())
 }
+
+#[cfg(test)]
+mod tests {
+    use super::*;
+
+    #[test]
+    fn the_picture_in_docs_is_that_of_crates_txt() {
+        let top = std::path::Path::new(env!("CARGO_MANIFEST_DIR")).join("../..");
+        let file = |name: &str| std::fs::read_to_string(top.join(name)).unwrap();
+        let drawn = of_crates(&file("crates.txt")).unwrap();
+        assert!(drawn == file("docs/crates.svg"), "make picture draws it");
+    }
+}

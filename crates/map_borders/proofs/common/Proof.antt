@@ -1,14 +1,14 @@
--- `common` is `meet` in 1,024 steps.
+-- `common` is `meet` in enough steps.
 -- Assumes nothing.
 use mathlib.Core.Path.{_≡_, refl, sym, _∙_}
 use borrow.Author.Needs.{needs}
-use Rattle.map_borders.specs.Lift.{meet}
+use Rattle.map_borders.specs.Lift.{mostSteps, meet}
 use Rattle.map_borders.proofs.Meet.{meet-none, meet-here, meet-above}
 use Rattle.map_borders.proofs.common.Statement.{statement}
 use Rattle.map_borders.proofs.common.Tie as tie
 
 abbrev Inv-loop : tie.InvT-loop
-Inv-loop parents a b x₀ y₀ left₀ x y left = meet parents 1024 a b ≡ meet parents left x y
+Inv-loop parents a b x₀ y₀ left₀ x y left = meet parents mostSteps a b ≡ meet parents left x y
 
 abbrev μ-loop : tie.MeasureT-loop
 μ-loop parents a b x₀ y₀ left₀ x y left = left

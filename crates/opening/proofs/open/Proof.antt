@@ -36,6 +36,5 @@ open-spec =
     open-sound-requires
     (search needs)
     (search needs)
-    (search needs)
     returns
     returns-2)

@@ -25,7 +25,7 @@ loop-holds c = (search needs, begins-none _ _)
 loop-again : tie.Need-loop-again Inv-loop μ-loop
 loop-again c =
     let passed = c .before .before .before .before .loop .inv .1 in
-    (search needs, begins-more passed (search needs) (omega (arith, c .lesser .ensures, passed .rest (c .before .before .before .before .loop .i) (omega arith))))
+    (search needs, begins-more passed (search needs) (omega (arith, c .lesser-sum .ensures, passed .rest (c .before .before .before .before .loop .i) (omega arith))))
 
 returns-2 : tie.Need-returns-2 Inv-loop μ-loop
 returns-2 c = begins-all (c .before .loop .inv .1) (search needs) (search needs)
