@@ -41,7 +41,7 @@ pub roads-known : (m : Map) (body : List ℕ) (n count : ℕ) {fit known : Bool}
 roads-known m body n count vertices roads is e =
     sym (is ∙ ap (λ (v : ℕ). eachFrom (roadTest body v) 0 n) (sym vertices) ∙ roads-fit-is m body n roads) ∙ e
 
-pub given-of : {m : Map} {parents leaves : List ℕ} (body : List ℕ) (v r p : ℕ) → Limited (theCounts v r p) → Shows m parents leaves v p → m .roads ≡ roadsOf r body
+pub given-of : {m : Map} {parents leaves : List ℕ} (body : List ℕ) (v r p : ℕ) → Limited (theCounts v r p) → ShowsPartsOf m parents leaves v p → m .roads ≡ roadsOf r body
     → partsFit m ≡ true → roadsFit m ≡ true → Given m parents leaves body v r p
 given-of body v r p limits shows roads goodParts goodRoads =
     record { shows = shows; roadList = roads; fewVertices = limits .vertices; fewParts = limits .parts; goodParts = goodParts; goodRoads = goodRoads }
@@ -56,7 +56,7 @@ unfolding fewAt
 each-few sizes n is e p h = leb-true (word sizes p) mostBorders (all-at (fewAt sizes) (upTo n) (sym (is ∙ each-all (fewAt sizes) n) ∙ e) p (upTo-has n p h))
 
 -- the counts and the need of a map that keeps the rules
-pub sound-by : (m : Map) (v r p : ℕ) {words : ℕ} {parents leaves : List ℕ} (body sizes : List ℕ) → Shows m parents leaves v p → m .roads ≡ roadsOf r body → Sizes m sizes
+pub sound-by : (m : Map) (v r p : ℕ) {words : ℕ} {parents leaves : List ℕ} (body sizes : List ℕ) → ShowsPartsOf m parents leaves v p → m .roads ≡ roadsOf r body → Sizes m sizes
     → words ≡ needOf (theCounts v r p) sizes → needing (record { vertices = v; roads = r; parts = p }) words ≡ due (verdict 0 m)
 sound-by m v r p {words} body sizes shows roads sized is =
     let isR : roadCount m ≡ r = ap length roads ∙ roads-length r body in

@@ -32,7 +32,7 @@ limited v r p fit =
     }
 
 pub shows-by : (bytes : List ℕ) (c : Counts) {first second old parents old′ leaves : List ℕ} → first ≡ drop parentsBody bytes → Copied first (c .parts) old parents
-    → second ≡ drop (leavesBody c) bytes → Copied second (c .vertices) old′ leaves → Shows (decode bytes c) parents leaves (c .vertices) (c .parts)
+    → second ≡ drop (leavesBody c) bytes → Copied second (c .vertices) old′ leaves → ShowsPartsOf (decode bytes c) parents leaves (c .vertices) (c .parts)
 unfolding decode
 shows-by bytes c isFirst parents isSecond leaves =
     record {
@@ -48,12 +48,12 @@ roads-by bytes c is = ap (roadsOf (c .roads)) (sym is)
 
 -- a sound map is what the bytes show by the counts of record 1
 pub given-by : (bytes : List ℕ) (m : Map) (v r p : ℕ) {parents leaves body : List ℕ} → judge bytes ≡ sound m → theCounts v r p ≡ countsOf bytes → Limited (theCounts v r p)
-    → Shows (decode bytes (theCounts v r p)) parents leaves v p → body ≡ drop (roadsBody (theCounts v r p)) bytes → Given m parents leaves body v r p
+    → ShowsPartsOf (decode bytes (theCounts v r p)) parents leaves v p → body ≡ drop (roadsBody (theCounts v r p)) bytes → Given m parents leaves body v r p
 given-by bytes m v r p {parents} {leaves} judged is within shows roads =
     let shown = judged-shown bytes m judged in
     let same : decode bytes (theCounts v r p) ≡ m = ap (decode bytes) is ∙ shown .map in
     record {
-      shows = subst (λ (k : Map). Shows k parents leaves v p) same shows;
+      shows = subst (λ (k : Map). ShowsPartsOf k parents leaves v p) same shows;
       roadList = sym (ap (λ (k : Map). k .roads) same) ∙ roads-by bytes (theCounts v r p) roads;
       fewVertices = within .vertices;
       fewParts = within .parts;

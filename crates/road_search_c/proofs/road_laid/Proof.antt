@@ -10,18 +10,18 @@ use Rattle.road_search_c.proofs.road_laid.Statement.{statement}
 use Rattle.road_search_c.proofs.road_laid.Tie as tie
 
 -- what is read of the first roads out is that of the vertex that the road leaves, and of the next vertex
-from-is : (c : tie.After-index) (f : ℕ → ℕ)
+from-is : (c : tie.After-wide) (f : ℕ → ℕ)
     → let s = c .before .before .before in
     f (c .wide .result) ≡ f (word (s .args .mem .now) (s .args .roads-at + 4 * s .args .j))
 from-is c f = ap f (c .wide .ensures)
 
-first-out : (c : tie.After-index)
+first-out : (c : tie.After-wide)
     → let s = c .before .before .before in
     firstOut (s .args .mem .now) (s .args .vertices-at) (c .wide .result)
     ≡ firstOut (s .args .mem .now) (s .args .vertices-at) (word (s .args .mem .now) (s .args .roads-at + 4 * s .args .j))
 first-out c = let s = c .before .before .before in from-is c (firstOut (s .args .mem .now) (s .args .vertices-at))
 
-next-out : (c : tie.After-index)
+next-out : (c : tie.After-wide)
     → let s = c .before .before .before in
     firstOut (s .args .mem .now) (s .args .vertices-at) (c .wide .result + 1)
     ≡ firstOut (s .args .mem .now) (s .args .vertices-at) (word (s .args .mem .now) (s .args .roads-at + 4 * s .args .j) + 1)
