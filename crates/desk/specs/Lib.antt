@@ -1,2 +1,2 @@
--- What the loop of the program keeps.
-pub mod Stands
+-- What reading and writing leave of where the program stands.
+pub mod Ready

@@ -1,3 +1,3 @@
--- What answer words show of a question's list, and a step's bytes and lines.
+-- What answer words show of a question's list, and what a call does.
 pub mod Listed
-pub mod Step
+pub mod Served

@@ -1,16 +1,14 @@
-// What the desk program does but for reading and writing: each change makes its own call of the core and gets its line, each van of a question's
-// list gets its line, and the opening and each call are a step.
-mod steps;
+// What a call of the desk program does: a change or a question is asked of the core, and its lines go into a lent buffer.
+mod serving;
 
 use answers::Reply;
 use cells::word;
 use desk_lines::Line;
 use fleet::Change;
-pub use steps::Step;
-pub use steps::begin;
-pub use steps::turn;
+pub use serving::serve;
 ghost use mathlib.Core.Path.{_≡_};
 ghost use Prim.Native.Nat.{_<_};
+ghost use Rattle.words.specs.Limits.{mostAsked};
 ghost use Rattle.answers.specs.Answered.{answered};
 ghost use Rattle.calls.specs.Outcome.{Changed};
 ghost use Rattle.desk_lines.specs.Desk.{changeLine, vanLine};
@@ -54,7 +52,7 @@ pub fn change_line(place: u32, reply: Reply) -> Line
 
 // The van at `i` of the list that the answer words show (proofs/Listed).
 pub fn van_line(place: u32, answer: &[u32], i: usize) -> Line
-    requires { ⌜ i < 32 ⌝ }
+    requires { ⌜ i < mostAsked ⌝ }
     ensures { λ r. ⌜ r ≡ vanLine place (listedAt (now (answer .entry)) i) ⌝ }
 {
     Line::Van {

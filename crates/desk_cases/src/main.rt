@@ -3,8 +3,8 @@
 // prints for the same inputs must come out.
 use cells::wide;
 use cells::word;
-use desk_calls::begin;
-use desk_calls::turn;
+use desk_steps::begin;
+use desk_steps::turn;
 use libc::STDOUT_FILENO;
 use packs::item_at;
 use packs::read_file;

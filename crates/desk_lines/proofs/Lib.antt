@@ -3,4 +3,5 @@ pub mod Sized
 pub mod Taking
 pub mod Writing
 pub mod Texts
+pub mod Lines
 pub mod Window

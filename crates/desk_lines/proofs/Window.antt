@@ -1,5 +1,5 @@
 -- The program reads its input through a window: what it finds there is what it would find in all that is left of the input, where the
--- window has 16 bytes (for a call), 10 (for the opening record) or 65,540 (for the map).
+-- window has as many bytes as the longest call (for a call), as an opening record (for that), or as the map may have and a length field (for the map).
 -- Assumes nothing.
 use mathlib.Core.Path.{_≡_, refl, sym, _∙_, ap}
 use mathlib.Core.Bool.{Bool, true, false, _&&_, cond}
@@ -19,7 +19,7 @@ use Rattle.desk_lines.specs.declared.record.Turn.{Turn}
 use Rattle.desk_lines.specs.declared.record.Turn.the-variants.{Over, Next}
 use Rattle.desk_lines.specs.declared.record.Opening.{Opening}
 use Rattle.desk_lines.specs.declared.record.Opening.the-variants.{Start}
-use Rattle.desk_lines.specs.Read.{takeRecords, sized, addOf, moveOf, removeOf, claimOf, releaseOf, questionOf, callOf, recordSize, turnFor, turnOf, openingOf}
+use Rattle.desk_lines.specs.Read.{mapRoom, openingBytes, longestCall, takeRecords, sized, addOf, moveOf, removeOf, claimOf, releaseOf, questionOf, callOf, recordSize, turnFor, turnOf, openingOf}
 use Rattle.desk_lines.proofs.Sized.{sized-no, size-short, size-cut, size-whole, size-fits, turn-bad, turn-call, opening-size}
 use Rattle.desk_lines.proofs.Taking.{none-left, take-long, take-next}
 
@@ -96,8 +96,8 @@ module _ (w more : List ℕ) where
           sym (size-whole (w ++ more) (field w 0 4) (sym (same-length four)) (omega (arith, long)) (omega (arith, longer, fits)))
           ∙ size-whole w (field w 0 4) refl (omega (arith, long)) fits
 
-  -- the next call is what a window of 16 bytes shows
-  pub turn-window : 16 ≤ length w → turnOf (w ++ more) ≡ turnOf w
+  -- the next call is what a window for the longest call shows
+  pub turn-window : longestCall ≤ length w → turnOf (w ++ more) ≡ turnOf w
   turn-window room = by (decLt 12 (field w 0 4))
     where
       by : Dec (12 < field w 0 4) → turnOf (w ++ more) ≡ turnOf w
@@ -114,8 +114,8 @@ module _ (w more : List ℕ) where
               (ap (callOf (field w 4 2)) (sym (part-within w more 6 (recordSize w - 6) (omega (arith, size-fits w some))))))
               ∙ turn-call w (recordSize w) (field w 4 2) refl refl (λ e. omega arith) some (callOf (field w 4 2) (take (recordSize w - 6) (drop 6 w))) refl
 
-  -- the opening record is what a window of 10 bytes shows
-  pub opening-window : 10 ≤ length w → openingOf (w ++ more) ≡ openingOf w
+  -- the opening record is what a window for it shows
+  pub opening-window : openingBytes ≤ length w → openingOf (w ++ more) ≡ openingOf w
   opening-window room = by (decLt 6 (field w 0 4))
     where
       by : Dec (6 < field w 0 4) → openingOf (w ++ more) ≡ openingOf w
@@ -130,10 +130,10 @@ module _ (w more : List ℕ) where
           opening-same : recordSize (w ++ more) ≡ recordSize w → field (w ++ more) 4 2 ≡ field w 4 2 → field (w ++ more) 6 4 ≡ field w 6 4 → openingOf (w ++ more) ≡ openingOf w
           opening-same p q r = opening-by (w ++ more) w p q r
 
-  -- the map is what a window of 65,540 bytes shows
-  pub take-window : 65540 ≤ length w → (n at : ℕ) → at ≤ 65536 → takeRecords n at (w ++ more) ≡ takeRecords n at w
+  -- the map is what a window for it and a length field shows
+  pub take-window : mapRoom + 4 ≤ length w → (n at : ℕ) → at ≤ mapRoom → takeRecords n at (w ++ more) ≡ takeRecords n at w
   take-window room zero at h = none-left (w ++ more) at 0 (omega arith) ∙ sym (none-left w at 0 (omega arith))
-  take-window room (suc n) at h = by (decLt 65536 (at + 4 + field w at 4)) (take-window room n (at + 4 + field w at 4))
+  take-window room (suc n) at h = by (decLt mapRoom (at + 4 + field w at 4)) (take-window room n (at + 4 + field w at 4))
     where
       less : suc n - 1 ≡ n
       less = omega arith
@@ -141,13 +141,13 @@ module _ (w more : List ℕ) where
       len : field w at 4 ≡ field (w ++ more) at 4
       len = sym (field-within w more at 4 (omega arith))
 
-      by : Dec (65536 < at + 4 + field w at 4) → (at + 4 + field w at 4 ≤ 65536 → takeRecords n (at + 4 + field w at 4) (w ++ more) ≡ takeRecords n (at + 4 + field w at 4) w)
+      by : Dec (mapRoom < at + 4 + field w at 4) → (at + 4 + field w at 4 ≤ mapRoom → takeRecords n (at + 4 + field w at 4) (w ++ more) ≡ takeRecords n (at + 4 + field w at 4) w)
           → takeRecords (suc n) at (w ++ more) ≡ takeRecords (suc n) at w
       by (yes long) later =
           take-long (w ++ more) at (field w at 4) len (suc n) (omega arith) (omega (arith, longer)) long
           ∙ sym (take-long w at (field w at 4) refl (suc n) (omega arith) (omega arith) long)
       by (no fits) later =
-          let within : at + 4 + field w at 4 ≤ 65536 = omega (arith, fits) in
+          let within : at + 4 + field w at 4 ≤ mapRoom = omega (arith, fits) in
           take-next (w ++ more) at (field w at 4) len (suc n) (omega arith) (omega (arith, longer)) within
           ∙ (λ i. takeRecords (less i) (at + 4 + field w at 4) (w ++ more))
           ∙ later within
@@ -171,7 +171,7 @@ turn-within bytes {call} {size} e = by (eqb (length bytes) 0) (ℕ-discrete (rec
         omega (arith, shown (callOf (field bytes 4 2) (take (recordSize bytes - 6) (drop 6 bytes))) (rw (ne-eqb (recordSize bytes) 0 some) at f), size-fits bytes some)
 
 -- And so does an opening record.
-pub opening-within : (bytes : List ℕ) {start : ℕ} → openingOf bytes ≡ Start start → 10 ≤ length bytes
+pub opening-within : (bytes : List ℕ) {start : ℕ} → openingOf bytes ≡ Start start → openingBytes ≤ length bytes
 unfolding openingOf
 opening-within bytes {start} e = by (ℕ-discrete (recordSize bytes) 10) e
   where

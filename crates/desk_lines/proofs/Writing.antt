@@ -8,26 +8,23 @@ use native.Mathlib.Nat.{add-zero}
 use native.Mathlib.Numerals.{add-one}
 use native.Mathlib.Omega.{arith}
 use lib.ListN.{length, set, take, drop, getD, length-append}
-use lib.Seq.{take-suc, take-all}
+use lib.Seq.{length-take-le, take-suc, take-all, take-at, sets, length-sets, sets-eq}
 use lib.Dec.{ltb}
 use borrow.Author.Tests.{lt-ltb, le-ltb}
 use Rattle.desk_lines.specs.Line.{digits, decimal}
-use Rattle.desk_lines.specs.Written.{written, Wrote}
+use Rattle.desk_lines.specs.Written.{Wrote}
 
-pub written-append : (out : List ℕ) (at : ℕ) (a b : List ℕ) → written out at (a ++ b) ≡ written (written out at a) (at + length a) b
-unfolding written
-written-append out at [] b = ap (λ (n : ℕ). written out n b) (sym (add-zero at))
-written-append out at (x ∷ a) b = written-append (set out at x) (suc at) a b ∙ ap (λ (n : ℕ). written (written (set out at x) (suc at) a) n b) (over at (length a))
+pub sets-append : (out : List ℕ) (at : ℕ) (a b : List ℕ) → sets out at (a ++ b) ≡ sets (sets out at a) (at + length a) b
+sets-append out at [] b = ap (λ (n : ℕ). sets out n b) (sym (add-zero at))
+sets-append out at (x ∷ a) b = sets-append (set out at x) (suc at) a b ∙ ap (λ (n : ℕ). sets (sets (set out at x) (suc at) a) n b) (over at (length a))
   where
     over : (k l : ℕ) → suc k + l ≡ k + suc l
     over k l = omega arith
 
 pub wrote-none : (out : List ℕ) (at : ℕ) → Wrote out at [] at out
-unfolding written
 wrote-none out at = record { ends = sym (add-zero at); bytes = refl }
 
 pub wrote-byte : (out : List ℕ) (at b : ℕ) {out′ : List ℕ} → out′ ≡ set out at b → Wrote out at (b ∷ []) (at + 1) out′
-unfolding written
 wrote-byte out at b e = record { ends = refl; bytes = e }
 
 pub wrote-more : {out : List ℕ} {at : ℕ} {a b : List ℕ} {mid end : ℕ} {out₁ out₂ : List ℕ} → Wrote out at a mid out₁ → Wrote out₁ mid b end out₂ → Wrote out at (a ++ b) end out₂
@@ -36,16 +33,24 @@ wrote-more {out} {at} {a} {b} {mid} {end} {out₁} {out₂} first second =
       ends = omega (arith, first .ends, second .ends, length-append a b);
       bytes =
           second .bytes
-          ∙ (λ i. written (first .bytes i) (first .ends i) b)
-          ∙ sym (written-append out at a b);
+          ∙ (λ i. sets (first .bytes i) (first .ends i) b)
+          ∙ sym (sets-append out at a b);
     }
 
 pub wrote-as : {out : List ℕ} {at : ℕ} {a : List ℕ} (b : List ℕ) {end : ℕ} {out′ : List ℕ} → a ≡ b → Wrote out at a end out′ → Wrote out at b end out′
 wrote-as b e w = rw e at w
 
+pub wrote-length : {out : List ℕ} {at : ℕ} {new : List ℕ} {end : ℕ} {out′ : List ℕ} → Wrote out at new end out′ → length out′ ≡ length out
+wrote-length {out} {at} {new} w = ap length (w .bytes) ∙ length-sets out at new
+
+-- what stood before `at` and what was stored from there on, where there is room for it
+pub wrote-shown : {out : List ℕ} {at : ℕ} {new : List ℕ} {end : ℕ} {out′ : List ℕ} → Wrote out at new end out′ → end ≤ length out → take end out′ ≡ take at out ++ new
+wrote-shown {out} {at} {new} {end} {out′} w room =
+    ap (take end) (w .bytes ∙ sets-eq new out at (omega (arith, w .ends)))
+    ∙ take-at (take at out ++ new) (drop (at + length new) out) end (length-append (take at out) new ∙ ap (λ (n : ℕ). n + length new) (length-take-le at out (omega (arith, w .ends))) ∙ sym (w .ends))
+
 -- no byte of a text
 pub wrote-start : (out : List ℕ) (at : ℕ) (text : List ℕ) → Wrote out at (take 0 text) (at + 0) out
-unfolding written
 wrote-start out at text = record { ends = refl; bytes = refl }
 
 -- the first i bytes of a text, and one more
@@ -55,7 +60,7 @@ wrote-next out at text i out₁ {out₂} h so-far e =
     let more = wrote-more so-far (wrote-byte out₁ (at + i) (getD text i 0) e) in
     let ends : at + (i + 1) ≡ (at + i) + 1 = omega arith in
     let longer : take (i + 1) text ≡ take i text ++ (getD text i 0 ∷ []) = rw (add-one, take-suc text i 0) in
-    record { ends = ends ∙ more .ends ∙ ap (λ (l : List ℕ). at + length l) (sym longer); bytes = more .bytes ∙ ap (written out at) (sym longer) }
+    record { ends = ends ∙ more .ends ∙ ap (λ (l : List ℕ). at + length l) (sym longer); bytes = more .bytes ∙ ap (sets out at) (sym longer) }
 
 -- all of it
 pub wrote-all : (out : List ℕ) (at : ℕ) (text : List ℕ) (i : ℕ) (out₁ : List ℕ) → length text ≤ i → Wrote out at (take i text) (at + i) out₁ → Wrote out at text (at + i) out₁

@@ -11,6 +11,12 @@ ghost use Rattle.desk_lines.specs.Read.{takeRecords, addOf, moveOf, remo
 // Bytes that the buffer for the map holds.
 pub const MAP_ROOM: usize = 65536;
 
+// Bytes of an opening record.
+pub const OPENING_BYTES: usize = 10;
+
+// Bytes of the longest call's record.
+pub const LONGEST_CALL: usize = 16;
+
 pub enum Taken {
     // The length fields ask for more than the room.
     TooLong,
@@ -205,7 +211,7 @@ pub fn opening_of(bytes: &[u8]) -> Opening
     ensures { λ r. ⌜ r ≡ openingOf (now (bytes .entry)) ⌝ }
 {
     let size = record_size(bytes);
-    if size != 10 {
+    if size != OPENING_BYTES {
         return Opening::Bad;
     }
     if number2(bytes, 4) != 5 {

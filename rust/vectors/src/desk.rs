@@ -39,6 +39,7 @@ pub fn all() -> Vec<(String, Vec<u8>)> {
     bad_calls(&mut add);
     refusals(&mut add);
     random(&mut add);
+    windows(&mut add);
     inputs
 }
 
@@ -359,4 +360,34 @@ fn random(add: &mut dyn FnMut(&str, Vec<u8>)) {
         let input = scenarios::random_desk_input(&mut dice, &map, count);
         add(&format!("random_{seed}"), input);
     }
+}
+
+/// Bytes of the program's window on its input.
+const WINDOW: usize = 65_552;
+
+/// What a window does not show whole: a record of 16 bytes of which 15 stand in the first window, and a long map.
+fn windows(add: &mut dyn FnMut(&str, Vec<u8>)) {
+    let small = small_map();
+    let mut long = vec![Call::Release(1, 1); 9];
+    long.extend(vec![Call::Add(0, 0, 1, 1); 4_084]);
+    assert_eq!(run(&small, 0, &long).len() + 15, WINDOW);
+    long.extend([Call::Add(2, 0, 1, 1), Call::Question(1, 2)]);
+    add("record_past_the_window", run(&small, 0, &long));
+    add(
+        "sound_map_of_41392_bytes",
+        run(&map_of_bytes(41_392), 1, &[]),
+    );
+}
+
+/// A map of six leaves of 32 and one of 25, with as many roads within the six as so many bytes have room for.
+fn map_of_bytes(bytes: usize) -> Map {
+    let mut map = map_of_leaves(&[32, 32, 32, 32, 32, 32, 25]);
+    let missing = bytes - map.bytes().len();
+    map.roads = (0..6 * 32)
+        .flat_map(|from| (0..32).map(move |to| road(from, from / 32 * 32 + to, 1)))
+        .filter(|road| road.from != road.to)
+        .take(missing / 8)
+        .collect();
+    assert_eq!(map.bytes().len(), bytes);
+    map
 }

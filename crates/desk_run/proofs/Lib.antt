@@ -1,0 +1,4 @@
+pub mod Moving
+pub mod Windows
+pub mod Plans
+pub mod Transcript
