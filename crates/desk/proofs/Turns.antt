@@ -10,7 +10,7 @@ use lib.ListN.{length}
 use Rattle.desk_lines.specs.Desk.{mostCalls}
 use Rattle.desk_steps.specs.Step.{Room, stepBytes}
 use Rattle.desk_run.specs.declared.Desk.{Desk}
-use Rattle.desk_run.specs.Desk.{windowBytes, neededAt, Fed, InWindow, MayStep, packedDesk, filledDesk, emptiedDesk, NextStep}
+use Rattle.desk_run.specs.Desk.{windowBytes, neededAt, Fed, InWindow, MayStep, freshDesk, packedDesk, filledDesk, emptiedDesk, NextStep}
 use Rattle.desk_run.proofs.Windows.{filled-fed}
 use Rattle.desk.specs.Ready.{FedFrom, Relieved}
 
@@ -19,11 +19,15 @@ use Rattle.desk.specs.Ready.{FedFrom, Relieved}
 pub fed-already : (s : Desk) {size : ℕ} → InWindow s size → Fed s → FedFrom s s size
 fed-already s stands fed = record { stands = stands; fed = fed; out = refl; place = refl; over = refl }
 
-pub fed-now : (s moved r : Desk) {count size : ℕ} → InWindow s size → windowBytes ≤ size → moved ≡ packedDesk s → moved .to + count ≤ size → r ≡ filledDesk moved count size → FedFrom s r size
-fed-now s moved r {count} {size} stands large is fits e =
-    subst⁻¹ (λ (d : Desk). FedFrom s d size) (e ∙ ap (λ (d : Desk). filledDesk d count size) is)
+pub moved-to : (s moved : Desk) → moved ≡ packedDesk s → moved .to ≡ s .to - s .from
+moved-to s moved is = ap (λ (d : Desk). d .to) is
+
+pub fed-now : (s moved r : Desk) (count : ℕ) {size size′ : ℕ} → InWindow s size → windowBytes ≤ size → moved ≡ packedDesk s → size′ ≡ size → moved .to + count ≤ size′
+    → r ≡ filledDesk moved count size′ → FedFrom s r size
+fed-now s moved r count {size} {size′} stands large is same fits e =
+    subst⁻¹ (λ (d : Desk). FedFrom s d size) (e ∙ ap (λ (n : ℕ). filledDesk moved count n) same ∙ ap (λ (d : Desk). filledDesk d count size) is)
     (record {
-      stands = record { forward = omega arith; within = omega (arith, ap (λ (d : Desk). d .to) is); few = stands .few; first = stands .first };
+      stands = record { forward = omega arith; within = omega (arith, moved-to s moved is); few = stands .few; first = stands .first };
       fed = filled-fed (packedDesk s) count size large refl (omega (arith, stands .within));
       out = refl;
       place = refl;
@@ -41,9 +45,17 @@ relieved-now s r {lines} e room =
 
 -- Stepping.
 
-pub may-step : (s a b : Desk) {size lines : ℕ} → s .over ≡ false → FedFrom s a size → Relieved a b lines → MayStep b size lines
-may-step s a b going f r =
-    record {
+pub stands-in : {s : Desk} {size size′ : ℕ} → InWindow s size → size′ ≡ size → InWindow s size′
+stands-in stands e = rw e stands
+
+pub fresh-stands : (s : Desk) (size lines : ℕ) → s ≡ freshDesk → (false ≡ s .over) × (s .over ≡ false → InWindow s size) × (s .out ≤ lines)
+fresh-stands s size lines e =
+    subst⁻¹ (λ (d : Desk). (false ≡ d .over) × (d .over ≡ false → InWindow d size) × (d .out ≤ lines)) e
+    (refl, (λ going. record { forward = omega arith; within = omega arith; few = omega arith; first = λ z. refl }), omega arith)
+
+pub may-step : (s a b : Desk) {size size′ lines : ℕ} → s .over ≡ false → FedFrom s a size → Relieved a b lines → size′ ≡ size → MayStep b size′ lines
+may-step s a b {size} {size′} {lines} going f r same = subst⁻¹ (λ (n : ℕ). MayStep b n lines) same
+    (record {
       stands = record {
         forward = omega (arith, f .stands .forward, r .from, r .to);
         within = omega (arith, f .stands .within, r .to);
@@ -53,7 +65,7 @@ may-step s a b going f r =
       going = r .over ∙ f .over ∙ going;
       fed = ⊎-elim (λ e. inl (r .ended ∙ e)) (λ h. inr (omega (arith, h, ap neededAt (r .place), r .from, r .to))) (f .fed);
       room = r .room;
-    }
+    })
 
 -- each step has the next place
 pub place-rises : (s a b : Desk) {r : Desk} {window mem mem′ out out′ : List ℕ} {size lines : ℕ} → FedFrom s a size → Relieved a b lines → NextStep window b r mem mem′ out out′ → r .place ≡ s .place + 1
