@@ -20,7 +20,7 @@ use Rattle.parts.specs.Size.{need}
 use Rattle.fleet.specs.State.{State}
 use Rattle.fleet.specs.declared.Change.{Change}
 use Rattle.fleet.specs.Change.{Answer, refused, accepted, numberOf, valueOf}
-use Rattle.fleet.specs.Question.{Listed, listedWords, comingFrom, sorted, nearest, questionInRange, Replied, listInto, replyBy, reply}
+use Rattle.fleet.specs.Question.{Listed, listedWords, comingFrom, sorted, nearest, questionInRange, Response, listInto, replyBy, reply}
 use Rattle.image.specs.Image.{image}
 use Rattle.calls.specs.Head.{Shows}
 use Rattle.calls.specs.Outcome.{Changed, Asked}
@@ -117,8 +117,8 @@ module _ (m : Map) (s : State) (x k : ℕ) (words : List ℕ) (room : length wor
       (λ fits.
       let found = nearest m s x k in
       let by = in-range fits in
-      let value : valueOf answer ≡ length found = ap valueOf (isAnswer ∙ ap (λ (r : Replied). r .answer) (by .0)) in
-      let shown : words′ ≡ gather listedWords found ++ drop (3 * length found) words = isWords ∙ ap (λ (r : Replied). r .words) (by .0) in
+      let value : valueOf answer ≡ length found = ap valueOf (isAnswer ∙ ap (λ (r : Response). r .answer) (by .0)) in
+      let shown : words′ ≡ gather listedWords found ++ drop (3 * length found) words = isWords ∙ ap (λ (r : Response). r .words) (by .0) in
       let all : min (valueOf answer) mostAsked ≡ length found = omega (arith, value, list-few (by .1)) in
       (λ i. listLines place (value i) (shown i) (all i))
       ∙ ap (λ (l : List Line). Length place (length found) ∷ l) (lines-shown place found (drop (3 * length found) words) (length found) (omega arith))
@@ -131,7 +131,7 @@ module _ (m : Map) (s : State) (x k : ℕ) (words : List ℕ) (room : length wor
   unfolding listInto
   question-refused place {answer} isAnswer some =
       ⊎-elim
-      (λ fits. absurd (some (ap numberOf (isAnswer ∙ ap (λ (r : Replied). r .answer) (in-range fits .0)))))
+      (λ fits. absurd (some (ap numberOf (isAnswer ∙ ap (λ (r : Response). r .answer) (in-range fits .0)))))
       (λ shut. ap (λ (n : ℕ). No place n ∷ []) (ap numberOf (isAnswer ∙ out-of-range shut)) ∙ sym (lines-out place shut))
       (true-or-false (questionInRange (m .vertices) x k))
 

@@ -30,7 +30,7 @@ use Rattle.answers.specs.Answered.{answered}
 use Rattle.map_judge.specs.declared.Judgement.{Judgement}
 use Rattle.map_judge.specs.declared.Judgement.the-variants.{Sound, Refused}
 use Rattle.map_judge.specs.Verdict.{said, due}
-use Rattle.map_judge.proofs.Said.{Accepts, said-sound, said-refused}
+use Rattle.map_judge.proofs.Said.{said-sound, said-refused}
 use Rattle.desk_lines.specs.declared.record.Taken.{Taken}
 use Rattle.desk_lines.specs.declared.record.Taken.the-variants.{TooLong, UpTo}
 use Rattle.desk_lines.specs.declared.record.Opening.{Opening}
@@ -89,36 +89,37 @@ module _ (input : List ℕ) (map : ℕ) (counts : Counts) {shown : Opening} (is 
 
 -- The judged map.
 
-module _ (input : List ℕ) (map : ℕ) {r : Step} {mem mem′ out out′ : List ℕ} (room : length mem ≡ memoryRoom) {judgement : Judgement} (is : said judgement ≡ due (judge (take map input))) where
-  abbrev Goes : Judged → Type 0
-  Goes j = GoesBy (judgedPlan j map (drop map input)) r mem mem′ out 0 out′
+-- what `judge` ensures, by what the definitions judge
+abbrev Goes : (input : List ℕ) (map : ℕ) (r : Step) (mem mem′ out out′ : List ℕ) → Judged → Type 0
+Goes input map r mem mem′ out out′ j = GoesBy (judgedPlan j map (drop map input)) r mem mem′ out 0 out′
 
+-- the same of a sound map, by whether it fits
+abbrev GoesIf : (input : List ℕ) (map : ℕ) (r : Step) (mem mem′ out out′ : List ℕ) → Map → Bool → Type 0
+GoesIf input map r mem mem′ out out′ m fits = GoesBy (cond fits (openPlan m map (openingOf (drop map input))) (lastLines (refusedOpening 5))) r mem mem′ out 0 out′
+
+module _ (input : List ℕ) (map : ℕ) {r : Step} {mem mem′ out out′ : List ℕ} (room : length mem ≡ memoryRoom) {judgement : Judgement} (is : said judgement ≡ due (judge (take map input))) where
   pub judges-refused : (reply : Reply) {number : ℕ} → judgement ≡ Refused reply → number ≡ numberOf (answered reply) → mem′ ≡ mem → LastStep (refusedOpening number) r out 0 out′
-      → Goes (judge (take map input))
+      → Goes input map r mem mem′ out out′ (judge (take map input))
   judges-refused reply {number} e isNumber same c =
       let refuses = said-refused (take map input) judgement is reply e in
-      let goes : Goes (Judged.refused number) = closed-goes (refusedOpening number) c same in
-      subst⁻¹ Goes (refuses .judged) (subst (λ (n : ℕ). Goes (Judged.refused n)) (isNumber ∙ ap numberOf (refuses .is)) goes)
+      subst⁻¹ (Goes input map r mem mem′ out out′) (refuses .judged)
+      (subst (λ (n : ℕ). Goes input map r mem mem′ out out′ (Judged.refused n)) (isNumber ∙ ap numberOf (refuses .is)) (closed-goes (refusedOpening number) c same))
 
-  -- a sound map by whether it fits
-  module _ (counts : Counts) (words : ℕ) (e : judgement ≡ Sound counts words) where
-    accepts-it : Accepts (take map input) counts words
-    accepts-it = said-sound (take map input) judgement is counts words e
+  pub judges-large : (counts : Counts) (words : ℕ) → judgement ≡ Sound counts words → memoryRoom < words → mem′ ≡ mem → LastStep (refusedOpening 5) r out 0 out′
+      → Goes input map r mem mem′ out out′ (judge (take map input))
+  judges-large counts words e big same c =
+      let accepts = said-sound (take map input) judgement is counts words e in
+      subst⁻¹ (Goes input map r mem mem′ out out′) (accepts .judged)
+      (subst⁻¹ (GoesIf input map r mem mem′ out out′ (accepts .map)) (lt-leb (need (accepts .map)) memoryRoom (omega (arith, accepts .need-is))) (closed-goes (refusedOpening 5) c same))
 
-    abbrev GoesIf : Bool → Type 0
-    GoesIf fits = GoesBy (cond fits (openPlan (accepts-it .map) map (openingOf (drop map input))) (lastLines (refusedOpening 5))) r mem mem′ out 0 out′
-
-    pub judges-large : memoryRoom < words → mem′ ≡ mem → LastStep (refusedOpening 5) r out 0 out′ → Goes (judge (take map input))
-    judges-large big same c =
-        subst⁻¹ Goes (accepts-it .judged)
-        (subst⁻¹ GoesIf (lt-leb (need (accepts-it .map)) memoryRoom (omega (arith, accepts-it .need-is))) (closed-goes (refusedOpening 5) c same))
-
-    pub judges-sound : words ≤ memoryRoom → OpenStep input map counts r mem mem′ out out′ → Goes (judge (take map input))
-    judges-sound small o =
-        let shown : counts ≡ countsShown (accepts-it .map) = λ i. record { vertices = accepts-it .vertices i; roads = accepts-it .roads i; parts = accepts-it .parts i } in
-        subst⁻¹ Goes (accepts-it .judged)
-        (subst⁻¹ GoesIf (le-leb (need (accepts-it .map)) memoryRoom (omega (arith, accepts-it .need-is)))
-        (o (accepts-it .map) (accepts-it .judged) (omega (arith, accepts-it .need-is)) shown))
+  pub judges-sound : (counts : Counts) (words : ℕ) → judgement ≡ Sound counts words → words ≤ memoryRoom → OpenStep input map counts r mem mem′ out out′
+      → Goes input map r mem mem′ out out′ (judge (take map input))
+  judges-sound counts words e small o =
+      let accepts = said-sound (take map input) judgement is counts words e in
+      let shown : counts ≡ countsShown (accepts .map) = λ i. record { vertices = accepts .vertices i; roads = accepts .roads i; parts = accepts .parts i } in
+      subst⁻¹ (Goes input map r mem mem′ out out′) (accepts .judged)
+      (subst⁻¹ (GoesIf input map r mem mem′ out out′ (accepts .map)) (le-leb (need (accepts .map)) memoryRoom (omega (arith, accepts .need-is)))
+      (o (accepts .map) (accepts .judged) (omega (arith, accepts .need-is)) shown))
 
 -- The first step as a whole: how long its plan is, and the map that the input cuts off.
 

@@ -12,19 +12,29 @@ slice-aggregate-judge-map : tie.Need-slice-aggregate-judge-map
 slice-aggregate-judge-map c = sym (length-take-le _ _ (omega arith))
 
 large : tie.Need-returns
-large c = judges-large (c .before .before .before .before .before .before .before .before .before .before .before .before .before .args .input .now) (c .before .before .before .before .before .before .before .before .before .before .before .before .before .args .map) (c .before .before .before .before .before .before .before .before .before .before .before .before .before .pre .1) _ _ (c .before .before .before .before .before .before .before .before .judge-map .ensures) (c .before .before .before .before .before .before .counts .given .1) (omega arith) refl (c .before .before .refuse2 .ensures)
+large c =
+    let judged = c .before .before .before .before .before .before .before .before in
+    let start = judged .before .before .before .before .before in
+    judges-large (start .args .input .now) (start .args .map) (start .pre .1) (judged .judge-map .ensures) _ _ (c .before .before .before .before .before .before .counts .given .1) (omega arith) refl (c .before .before .refuse2 .ensures)
 
 refused : tie.Need-returns-2
-refused c = judges-refused (c .before .before .before .before .before .before .before .before .before .before .before .before .args .input .now) (c .before .before .before .before .before .before .before .before .before .before .before .before .args .map) (c .before .before .before .before .before .before .before .before .before .before .before .before .pre .1) _ (c .before .before .before .before .before .before .before .judge-map .ensures) (c .before .before .before .before .before .number .given .1) refl (c .before .before .refuse .ensures)
+refused c =
+    let judged = c .before .before .before .before .before .before .before .before in
+    let start = judged .before .before .before .before .before in
+    judges-refused (start .args .input .now) (start .args .map) (start .pre .1) (judged .judge-map .ensures) _ (c .before .before .before .before .before .before .reply .given .1) (c .before .before .before .number .ensures) refl (c .before .before .refuse .ensures)
 
 sound : tie.Need-returns-3
-sound c = judges-sound (c .before .before .before .before .before .before .before .before .before .before .before .before .before .before .before .before .args .input .now) (c .before .before .before .before .before .before .before .before .before .before .before .before .before .before .before .before .args .map) (c .before .before .before .before .before .before .before .before .before .before .before .before .before .before .before .before .pre .1) _ _ (c .before .before .before .before .before .before .before .before .before .before .before .judge-map .ensures) (c .before .before .before .before .before .before .before .before .before .counts .given .1) (omega arith) (c .before .before .before .before .«open» .ensures)
+sound c =
+    let judged = c .before .before .before .before .before .before .before .before .before .before .before in
+    let start = judged .before .before .before .before .before in
+    judges-sound (start .args .input .now) (start .args .map) (start .pre .1) (judged .judge-map .ensures) _ _ (c .before .before .before .before .before .before .before .before .before .counts .given .1) (omega arith) (c .before .before .before .before .«open» .ensures)
 
 pub judge-spec : {M : Type 1} → statement M
 judge-spec =
     tie.close
     (tie.spec
     slice-aggregate-judge-map
+    (search needs)
     (search needs)
     (search needs)
     (search needs)
