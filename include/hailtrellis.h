@@ -19,7 +19,7 @@ extern "C" {
 /* What a call answers. */
 typedef struct hailtrellis_reply {
     uint32_t code;  /* 0 if the call was accepted, otherwise the number of the refusal */
-    uint32_t value; /* the start number, the new stamp or the length of the list; 0 if the call was refused */
+    uint32_t value; /* the start number, the new stamp or the length of the list; 0 of a road, and if the call was refused */
 } hailtrellis_reply;
 
 /* The answer of an accepted call, and the refusals. */
@@ -34,12 +34,13 @@ enum {
     HAILTRELLIS_OUT_OF_RANGE = 7,         /* van, desk, k or the asked vertex is outside its range */
     HAILTRELLIS_NO_SUCH_VAN = 8,          /* no such van */
     HAILTRELLIS_VAN_PRESENT = 9,          /* van already present */
-    HAILTRELLIS_NO_ROAD = 10,             /* no road (u, v), also where u or v is no vertex */
+    HAILTRELLIS_NO_ROAD = 10,             /* neither (u, v) nor (v, u) is a road, also where u or v is no vertex */
     HAILTRELLIS_OFFSET_ABOVE_WEIGHT = 11, /* offset above the weight */
     HAILTRELLIS_VAN_HELD = 12,            /* van is held */
     HAILTRELLIS_NOT_HELD_BY_DESK = 13,    /* van is not held by this desk */
     HAILTRELLIS_STAMP_DIFFERS = 14,       /* stamp differs from the van's */
-    HAILTRELLIS_COUNT_FULL = 15           /* change count is 4,294,967,295 */
+    HAILTRELLIS_COUNT_FULL = 15,          /* change count is 4,294,967,295 */
+    HAILTRELLIS_WRONG_WAY = 20            /* (u, v) is no road but (v, u) is */
 };
 
 /* Van numbers are 0 to 1,023, desks 1 to 255, k 1 to 32. */
@@ -54,11 +55,11 @@ hailtrellis_reply hailtrellis_open(const uint8_t *map, size_t map_len, uint32_t 
                                    uint32_t start);
 
 /* Places a free van on the road (from, to), offset left to `to`. The value is the new stamp.
- * Refusals: 6, 7, 9, 10, 11, 15. */
+ * Refusals: 6, 7, 9, 10 or 20, 11, 15. */
 hailtrellis_reply hailtrellis_add(uint32_t *memory, size_t memory_len, uint32_t van, uint32_t from, uint32_t to,
                                   uint32_t offset);
 
-/* Changes the place of a van, free or held. The value is the new stamp. Refusals: 6, 7, 8, 10, 11, 15. */
+/* Changes the place of a van, free or held. The value is the new stamp. Refusals: 6, 7, 8, 10 or 20, 11, 15. */
 hailtrellis_reply hailtrellis_move(uint32_t *memory, size_t memory_len, uint32_t van, uint32_t from, uint32_t to,
                                    uint32_t offset);
 
@@ -77,6 +78,9 @@ hailtrellis_reply hailtrellis_release(uint32_t *memory, size_t memory_len, uint3
  * stay. Refusals: 6, 7, 5. */
 hailtrellis_reply hailtrellis_question(const uint32_t *memory, size_t memory_len, uint32_t vertex, uint32_t k,
                                        uint32_t *answer, size_t answer_len);
+
+/* Tells of the road (from, to): accepted with the value 0 if it is one. Refusals: 6, 10 or 20. */
+hailtrellis_reply hailtrellis_road(const uint32_t *memory, size_t memory_len, uint32_t from, uint32_t to);
 
 #ifdef __cplusplus
 }

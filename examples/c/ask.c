@@ -1,4 +1,4 @@
-/* Opens the small map, places two vans, asks for the nearest to vertex 0, and lets two desks claim it.
+/* Opens the small map, places two vans, asks for the nearest to vertex 0, lets two desks claim it, and looks up a road.
  *
  *     cc -Iinclude examples/c/ask.c target/staticlib/libhailtrellis_c.a -o target/ask && target/ask
  */
@@ -58,6 +58,11 @@ int main(void)
     reply = hailtrellis_release(memory, 8413, answer[0], 2);
     if (reply.code == HAILTRELLIS_NOT_HELD_BY_DESK) {
         printf("desk 2 cannot release it: another desk holds it\n");
+    }
+
+    reply = hailtrellis_road(memory, 8413, 1, 4);
+    if (reply.code == HAILTRELLIS_WRONG_WAY) {
+        printf("1->4 is no road, only 4->1 is\n");
     }
     return 0;
 }

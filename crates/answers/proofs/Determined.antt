@@ -5,10 +5,10 @@ use mathlib.Core.List.{List, [], _∷_}
 use lib.ListN.{getD}
 use Rattle.fleet.specs.Change.{Answer, refused, accepted}
 use Rattle.answers.specs.declared.Reply.{Reply}
-use Rattle.answers.specs.declared.Reply.the-variants.{Accepted, MapRecord, MapCounts, MapParts, MapRoads, TooFewWords, NotOpened, OutOfRange, NoSuchVan, VanPresent, NoRoad, OffsetAboveWeight, VanHeld, NotHeldByDesk, StampDiffers, CountFull}
+use Rattle.answers.specs.declared.Reply.the-variants.{Accepted, MapRecord, MapCounts, MapParts, MapRoads, TooFewWords, NotOpened, OutOfRange, NoSuchVan, VanPresent, NoRoad, OffsetAboveWeight, VanHeld, NotHeldByDesk, StampDiffers, CountFull, WrongWay}
 use Rattle.answers.specs.Answered.{answered}
 
--- the refusals by their numbers; what stands at 0 is no refusal
+-- the refusals by their numbers; what stands at 0 and from 16 to 19 is no refusal
 refusals : List Reply
 refusals =
     Accepted 0
@@ -27,6 +27,11 @@ refusals =
     ∷ NotHeldByDesk
     ∷ StampDiffers
     ∷ CountFull
+    ∷ Accepted 0
+    ∷ Accepted 0
+    ∷ Accepted 0
+    ∷ Accepted 0
+    ∷ WrongWay
     ∷ []
 
 back : Answer → Reply
@@ -51,6 +56,7 @@ back-is VanHeld = refl
 back-is NotHeldByDesk = refl
 back-is StampDiffers = refl
 back-is CountFull = refl
+back-is WrongWay = refl
 
 pub answered-same : (a b : Reply) → answered a ≡ answered b → a ≡ b
 answered-same a b e = sym (back-is a) ∙ ap back e ∙ back-is b

@@ -1,7 +1,7 @@
 -- Each case of `Reply` as the definitions' answer: accepted with its value, or refused with the scope's number.
 use Rattle.fleet.specs.Change.{Answer, refused, accepted}
 use Rattle.answers.specs.declared.Reply.{Reply}
-use Rattle.answers.specs.declared.Reply.the-variants.{Accepted, MapRecord, MapCounts, MapParts, MapRoads, TooFewWords, NotOpened, OutOfRange, NoSuchVan, VanPresent, NoRoad, OffsetAboveWeight, VanHeld, NotHeldByDesk, StampDiffers, CountFull}
+use Rattle.answers.specs.declared.Reply.the-variants.{Accepted, MapRecord, MapCounts, MapParts, MapRoads, TooFewWords, NotOpened, OutOfRange, NoSuchVan, VanPresent, NoRoad, OffsetAboveWeight, VanHeld, NotHeldByDesk, StampDiffers, CountFull, WrongWay}
 
 abbrev pub answered : Reply → Answer
 answered (Accepted value) = accepted value
@@ -20,3 +20,4 @@ answered VanHeld = refused 12
 answered NotHeldByDesk = refused 13
 answered StampDiffers = refused 14
 answered CountFull = refused 15
+answered WrongWay = refused 20

@@ -4,7 +4,7 @@ ghost use Rattle.fleet.specs.Change.{numberOf, valueOf};
 ghost use Rattle.answers.specs.Answered.{answered};
 
 pub enum Reply {
-    // with the new stamp, the length of the list, or the start number
+    // with the new stamp, the length of the list, the start number, or 0 for a road
     Accepted(u32),
     // a map record has a wrong length or kind, is cut, or bytes follow
     MapRecord,
@@ -24,7 +24,7 @@ pub enum Reply {
     NoSuchVan,
     // van already present
     VanPresent,
-    // no road (u, v), also where u or v is no vertex
+    // neither (u, v) nor (v, u) is a road, also where u or v is no vertex
     NoRoad,
     // offset above the weight
     OffsetAboveWeight,
@@ -36,6 +36,8 @@ pub enum Reply {
     StampDiffers,
     // change count is 4,294,967,295
     CountFull,
+    // (u, v) is no road but (v, u) is
+    WrongWay,
 }
 
 impl Reply {
@@ -60,10 +62,11 @@ impl Reply {
             Reply::NotHeldByDesk => 13,
             Reply::StampDiffers => 14,
             Reply::CountFull => 15,
+            Reply::WrongWay => 20,
         }
     }
 
-    // The stamp, length or start number of an accepted call; 0 of a refused one.
+    // The stamp, length or start number of an accepted call; 0 for a road, and of a refused call.
     pub fn value(self) -> u32
         ensures { λ r. ⌜ r ≡ valueOf (answered self) ⌝ }
     {
@@ -84,6 +87,7 @@ impl Reply {
             Reply::NotHeldByDesk => 0,
             Reply::StampDiffers => 0,
             Reply::CountFull => 0,
+            Reply::WrongWay => 0,
         }
     }
 }

@@ -20,7 +20,7 @@ use Rattle.image.specs.Image.{image}
 use Rattle.image.proofs.Length.{image-length}
 use Rattle.calls.specs.Head.{opened, Shows}
 use Rattle.calls.specs.Outcome.{opening, Changed}
-use Rattle.calls.specs.Run.{Event, changed, asked, notOpened, Outcome, Run, opens, calls, foundBy, doneBy, stateTold}
+use Rattle.calls.specs.Run.{Event, changed, asked, looked, notOpened, Outcome, Run, opens, calls, foundBy, doneBy, stateTold}
 use Rattle.calls.specs.Promise.{BeyondOfRun, RefusedKeeps}
 use Rattle.calls.proofs.Head.{room, lent-shown}
 use Rattle.calls.proofs.Run.{opened-memory, refused-memory, memory-of-run}
@@ -31,6 +31,8 @@ refused-keeps (changed c (refused n)) mem mem′ out e = (out .refusal n refl, t
 refused-keeps (changed c (accepted value)) mem mem′ out e = absurd (true≢false (sym e))
 refused-keeps (asked x k words (refused n) words′) mem mem′ out e = (out .1, out .0 .refusal n refl)
 refused-keeps (asked x k words (accepted value) words′) mem mem′ out e = absurd (true≢false (sym e))
+refused-keeps (looked l (refused n)) mem mem′ out e = (out .1, tt)
+refused-keeps (looked l (accepted value)) mem mem′ out e = absurd (true≢false (sym e))
 refused-keeps (notOpened bytes start n) mem mem′ out e = (out .leaves ∙ refused-memory (judge bytes) mem start n (out .gives), tt)
 
 -- after an image stands what stood there
@@ -59,6 +61,7 @@ module _ (m : Map) (s : State) (lent : ℕ) (mem mem′ : List ℕ) (shows : Sho
   called (changed c answer) out =
       ⊎-elim (λ head. stepped c answer head out) (λ shut. left (out .refusal 6 (out .screened .unopened shut))) (true-or-false (opened (take lent mem)))
   called (asked x k words answer words′) out = left (out .1)
+  called (looked l answer) out = left (out .1)
   called (notOpened bytes start n) out = left (out .leaves ∙ refused-memory (judge bytes) (take lent mem) start n (out .gives))
 
 beyond : (m : Map) (start : ℕ) {es : List Event} {mem : List ℕ} (run : Run m start es mem) → drop (need m) mem ≡ drop (need m) (foundBy run)

@@ -14,7 +14,7 @@ use Rattle.fleet.specs.Change.{refused, accepted}
 use Rattle.fleet.proofs.Stamps.{stamp-is-count}
 use Rattle.calls.specs.Head.{opened}
 use Rattle.calls.specs.Outcome.{Changed}
-use Rattle.calls.specs.Run.{Event, changed, asked, notOpened, Outcome, Run, opens, calls, Done, doneBy, countTold, stateTold}
+use Rattle.calls.specs.Run.{Event, changed, asked, looked, notOpened, Outcome, Run, opens, calls, Done, doneBy, countTold, stateTold}
 use Rattle.calls.specs.Promise.{StampsOfRun}
 use Rattle.calls.proofs.Head.{lent-shown}
 use Rattle.calls.proofs.Run.{memory-of-run}
@@ -58,6 +58,7 @@ module _ (start : ℕ) where
     one-more (changed c (accepted stamp)) lent mem′ run out before = more (given c stamp lent mem′ run out) before
     one-more (changed c (refused n)) lent mem′ run out before = before
     one-more (asked x k words answer words′) lent mem′ run out before = before
+    one-more (looked l answer) lent mem′ run out before = before
     one-more (notOpened bytes first n) lent mem′ run out before = before
 
     stamped : {es : List Event} {mem : List ℕ} → Run m start es mem → Stamped start (doneBy es)

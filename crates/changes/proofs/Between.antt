@@ -19,8 +19,9 @@ use Rattle.image.proofs.Length.{image-length}
 use Rattle.image.proofs.Records.{vertices-start, roads-start, vans-start, tables-start, rows-start, rows-end, head-word, part-word, vertex-word, road-word, van-word, table-word, shown-word, Address, in-head, in-parts, in-vertices, in-roads, in-vans, in-tables, in-rows, address, image-by-words}
 use Rattle.van_lists.proofs.Links.{linkFrom, slotWords, van-record}
 use Rattle.van_lists.proofs.Parked.{Parked, field, OnlyVans}
+use Rattle.road_lookup.proofs.Shown.{countsOf, vertex-place}
 use Rattle.row_memory.specs.Old.{RowsOld}
-use Rattle.changes.proofs.Reading.{countsOf, vertex-place, van-place, vans-end, tables-within}
+use Rattle.changes.proofs.Reading.{van-place, vans-end, tables-within}
 
 abbrev pub withCount : State → ℕ → State
 withCount s count = record { count = count; vans = s .vans }

@@ -27,6 +27,7 @@ use Rattle.van_lists.specs.declared.VanWords.{VanWords}
 use Rattle.van_lists.specs.Slot.{standingWords}
 use Rattle.van_lists.specs.Walk.{vanIn}
 use Rattle.van_lists.proofs.Relink.{slot-new}
+use Rattle.road_lookup.proofs.Shown.{countsOf, counts-read, image-roads}
 use Rattle.refusals.specs.declared.Verdict.{Verdict}
 use Rattle.refusals.specs.declared.Verdict.the-variants.{Refuse, Stand}
 use Rattle.refusals.specs.Verdict.{HasVerdict}
@@ -34,7 +35,7 @@ use Rattle.refusals.proofs.Agrees.{VerdictAgrees, agrees}
 use Rattle.refusals.proofs.Later.{Later, judged-later}
 use Rattle.changes.specs.Made.{counted, settled}
 use Rattle.changes.specs.Done.{ChangeDone}
-use Rattle.changes.proofs.Reading.{countsOf, counts-read, count-read, image-roads, image-weights, van-read}
+use Rattle.changes.proofs.Reading.{count-read, image-weights, van-read}
 use Rattle.changes.proofs.Whole.{OnMap, image-settled}
 
 -- a step by the refusal that is known

@@ -49,11 +49,7 @@ desk-small (Release van desk) e = desk-within van desk e
 
 out-of-range : (m : Map) (s : State) (c : Change) → inRange c ≡ false → refusalOf m s c ≡ 7
 unfolding refusalOf
-out-of-range m s (Add van u v offset) e = simp e
-out-of-range m s (Move van u v offset) e = simp e
-out-of-range m s (Remove van) e = simp e
-out-of-range m s (Claim van stamp desk) e = simp e
-out-of-range m s (Release van desk) e = simp e
+out-of-range m s c e = simp e
 
 module _ (c : Change) (mem : List ℕ) where
   -- a memory that shows a fleet is its words and what follows

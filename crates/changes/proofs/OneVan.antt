@@ -25,10 +25,11 @@ use Rattle.van_lists.proofs.Links.{withSlot, headsAt, linkFrom, link-found, act
 use Rattle.van_lists.proofs.Parked.{Parked}
 use Rattle.van_lists.proofs.Relink.{slot-new, slots-kept, link-elsewhere}
 use Rattle.van_lists.proofs.OneVan.{one-head, parked-kept, kept-only, parked-out, out-only, parked-in, in-only}
+use Rattle.road_lookup.proofs.Shown.{countsOf}
 use Rattle.row_memory.specs.Old.{RowsOld}
 use Rattle.row_memory.proofs.Whole.{image-unswitched, image-switched}
 use Rattle.changes.specs.Made.{switchedAlone, vanDeparted, vanArrived}
-use Rattle.changes.proofs.Reading.{countsOf, image-parked}
+use Rattle.changes.proofs.Reading.{image-parked}
 use Rattle.changes.proofs.Between.{rows-old}
 
 -- a vertex for which a free van heads is active

@@ -1,4 +1,4 @@
--- What the code reads in the words of a map and a fleet: the counts, the roads, the vans and their lists.
+-- What the code reads in the words of a map and a fleet: the change count, the weights of roads, the vans and their lists.
 -- Assumes nothing.
 use mathlib.Core.Path.{_≡_, refl, sym, ap, _∙_}
 use mathlib.Core.List.{List}
@@ -11,27 +11,23 @@ use Rattle.words.specs.Limits.{vans}
 use Rattle.words.specs.Lists.{word}
 use Rattle.cells.specs.Part.{part}
 use Rattle.cells.proofs.Part.{part-length, part-at}
-use Rattle.layout.specs.Layout.{vertex·words, road·words, van·words, van·road, van·offset, van·stamp}
-use Rattle.roads.specs.Map.{Map, partCount, roadCount, roadAt}
+use Rattle.layout.specs.Layout.{van·words, van·road, van·offset, van·stamp}
+use Rattle.roads.specs.Map.{Map, roadCount, roadAt}
 use Rattle.parts.specs.Size.{need}
-use Rattle.counts.specs.declared.Counts.{Counts}
-use Rattle.places.specs.Place.{countsIn, vertexAddress, roadAddress, vanAddress}
+use Rattle.places.specs.Place.{vanAddress}
 use Rattle.fleet.specs.State.{Slot, absent, present, State, slotOf}
-use Rattle.image.specs.Places.{verticesAt, roadsAt, vansAt, tablesAt}
+use Rattle.image.specs.Places.{vansAt, tablesAt}
 use Rattle.image.specs.Image.{headPart, vertexRecord, image}
 use Rattle.image.specs.Records.{roadRecord}
 use Rattle.image.proofs.Length.{image-length}
-use Rattle.image.proofs.Records.{vertices-start, roads-start, vans-start, tables-start, rows-start, rows-end, head-word, vertex-word, road-word, van-word}
+use Rattle.image.proofs.Records.{roads-start, vans-start, tables-start, rows-start, rows-end, head-word, vertex-word, road-word, van-word}
 use Rattle.van_lists.specs.declared.VanWords.{VanWords}
 use Rattle.van_lists.specs.Slot.{standingWords}
 use Rattle.van_lists.specs.Walk.{vanIn}
 use Rattle.van_lists.proofs.Links.{linkFrom, slotWords, van-record}
 use Rattle.van_lists.proofs.Parked.{Parked, field}
-use Rattle.road_lookup.specs.Lookup.{RoadsKnown}
+use Rattle.road_lookup.proofs.Shown.{countsOf, vertex-place, road-place}
 use Rattle.refusals.specs.Verdict.{weightIn}
-
-abbrev pub countsOf : Map → Counts
-countsOf m = record { vertices = m .vertices; roads = roadCount m; parts = partCount m }
 
 slot-length : (m : Map) (s : State) (n : ℕ) (slot : Slot) → length (slotWords m s n slot) ≡ 8
 slot-length m s n absent = refl
@@ -39,12 +35,6 @@ slot-length m s n (present v) = refl
 
 -- where records stand, by the counts and by the map
 module _ (m : Map) where
-  pub vertex-place : (v w : ℕ) → vertexAddress (countsOf m) v + w ≡ verticesAt m + vertex·words * v + w
-  vertex-place v w = omega (arith, vertices-start m)
-
-  pub road-place : (i w : ℕ) → roadAddress (countsOf m) i + w ≡ roadsAt m + road·words * i + w
-  road-place i w = omega (arith, roads-start m)
-
   pub van-place : (x w : ℕ) → vanAddress (countsOf m) x + w ≡ vansAt m + van·words * x + w
   van-place x w = omega (arith, roads-start m, vans-start m)
 
@@ -56,13 +46,6 @@ module _ (m : Map) where
   tables-within = omega (arith, rows-start m, rows-end m)
 
 module _ (m : Map) (s : State) (slots : length (s .vans) ≡ vans) where
-  pub counts-read : countsIn (image m s) ≡ countsOf m
-  unfolding headPart
-  counts-read = same (head-word m s slots 2 (omega arith)) (head-word m s slots 3 (omega arith)) (head-word m s slots 4 (omega arith))
-    where
-      same : {a b c d e f : ℕ} → a ≡ b → c ≡ d → e ≡ f → _≡_ {A = Counts} (record { vertices = a; roads = c; parts = e }) (record { vertices = b; roads = d; parts = f })
-      same p q r i = record { vertices = p i; roads = q i; parts = r i }
-
   pub count-read : word (image m s) 5 ≡ s .count
   unfolding headPart
   count-read = head-word m s slots 5 (omega arith)
@@ -87,16 +70,6 @@ module _ (m : Map) (s : State) (slots : length (s .vans) ≡ vans) where
         size = omega (arith, image-length m s slots, vans-end m, tables-within m);
         first = λ v h. ap (word (image m s)) (vertex-place m v 4) ∙ vertex-word m s slots v 4 h (omega arith);
         van = van-at;
-      }
-
-  pub image-roads : RoadsKnown m (countsOf m) (image m s)
-  unfolding vertexRecord roadRecord
-  image-roads =
-      record {
-        vertices = refl;
-        roads = refl;
-        first = λ v h. ap (word (image m s)) (vertex-place m v 2) ∙ vertex-word m s slots v 2 h (omega arith);
-        end = λ i h. ap (word (image m s)) (road-place m i 1) ∙ road-word m s slots i 1 h (omega arith);
       }
 
   pub image-weights : (i : ℕ) → i < roadCount m → weightIn (image m s) (countsOf m) i ≡ roadAt m i .weight

@@ -23,9 +23,10 @@ use Rattle.van_lists.proofs.Links.{withSlot, headsAt, heads-there, heads-held, 
 use Rattle.van_lists.proofs.Relink.{slot-new, slots-kept}
 use Rattle.van_lists.proofs.OneVan.{one-head}
 use Rattle.road_lookup.specs.Lookup.{endIn}
+use Rattle.road_lookup.proofs.Shown.{countsOf, image-roads}
 use Rattle.changes.specs.Made.{vanArrived, made, settled}
 use Rattle.changes.proofs.Chain.{makes-kept, makes-moved, makes-departed, makes-arrived, makes-written}
-use Rattle.changes.proofs.Reading.{countsOf, count-read, image-roads}
+use Rattle.changes.proofs.Reading.{count-read}
 use Rattle.changes.proofs.Between.{withCount, count-image}
 use Rattle.changes.proofs.OneVan.{image-kept, image-departed, image-arrived}
 

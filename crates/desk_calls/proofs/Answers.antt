@@ -7,7 +7,7 @@ use native.Mathlib.Omega.{arith}
 use Rattle.fleet.specs.declared.Change.{Change}
 use Rattle.fleet.specs.Change.{Answer, refused, accepted, numberOf, valueOf}
 use Rattle.answers.specs.declared.Reply.{Reply}
-use Rattle.answers.specs.declared.Reply.the-variants.{Accepted, MapRecord, MapCounts, MapParts, MapRoads, TooFewWords, NotOpened, OutOfRange, NoSuchVan, VanPresent, NoRoad, OffsetAboveWeight, VanHeld, NotHeldByDesk, StampDiffers, CountFull}
+use Rattle.answers.specs.declared.Reply.the-variants.{Accepted, MapRecord, MapCounts, MapParts, MapRoads, TooFewWords, NotOpened, OutOfRange, NoSuchVan, VanPresent, NoRoad, OffsetAboveWeight, VanHeld, NotHeldByDesk, StampDiffers, CountFull, WrongWay}
 use Rattle.answers.specs.Answered.{answered}
 use Rattle.calls.specs.Outcome.{Changed}
 use Rattle.desk_lines.specs.declared.line.Line.the-variants.{Ok, No}
@@ -34,6 +34,7 @@ line-ok place VanHeld e = absurd (omega arith)
 line-ok place NotHeldByDesk e = absurd (omega arith)
 line-ok place StampDiffers e = absurd (omega arith)
 line-ok place CountFull e = absurd (omega arith)
+line-ok place WrongWay e = absurd (omega arith)
 
 line-no : (place : ℕ) (a : Answer) → (numberOf a ≡ 0 → ⊥) → No place (numberOf a) ≡ changeLine place a
 line-no place (refused n) h = refl

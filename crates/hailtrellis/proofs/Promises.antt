@@ -1,18 +1,20 @@
--- What the contracts of the seven calls promise together, each promise proved. A run (`crates/calls/specs/Run.antt`) has the outcome record that
+-- What the contracts of the eight calls promise together, each promise proved. A run (`crates/calls/specs/Run.antt`) has the outcome record that
 -- each call's contract ensures, so these hold for every run of the calls of this crate.
 -- Assumes nothing.
 use mathlib.Core.Path.{_≡_}
+use mathlib.Core.Bool.{true}
 use mathlib.Core.List.{List}
 use Prim.Native.Nat.{ℕ}
 use Rattle.words.specs.Lists.{word}
 use Rattle.fleet.specs.declared.Change.{Change}
+use Rattle.fleet.specs.Look.{Look}
 use Rattle.fleet.specs.Change.{inRange}
 use Rattle.fleet.specs.Question.{questionInRange}
 use Rattle.answers.specs.declared.Reply.{Reply}
 use Rattle.answers.specs.Answered.{answered}
 use Rattle.answers.proofs.Determined.{answered-same}
-use Rattle.calls.specs.Outcome.{Opened, Changed, Asked}
-use Rattle.calls.specs.Promise.{MemoryOfRun, RowsOfRun, BeyondOfRun, RefusedKeeps, QuestionOfRun, ClaimOfRun, StampsOfRun, DistanceOfRun, Determinate, DeterminateOfRun}
+use Rattle.calls.specs.Outcome.{Opened, Changed, Asked, Looked}
+use Rattle.calls.specs.Promise.{MemoryOfRun, RowsOfRun, BeyondOfRun, RefusedKeeps, QuestionOfRun, ClaimOfRun, RoadOfRun, StampsOfRun, DistanceOfRun, Determinate, DeterminateOfRun}
 use Rattle.calls.proofs.Run as run
 use Rattle.calls.proofs.Rows as rows
 use Rattle.calls.proofs.Kept as kept
@@ -20,6 +22,7 @@ use Rattle.calls.proofs.Stamps as stamps
 use Rattle.calls.proofs.Ways as ways
 use Rattle.calls.proofs.Question as question
 use Rattle.calls.proofs.Claim as claim
+use Rattle.calls.proofs.Road as road
 use Rattle.calls.proofs.Determined as determined
 
 -- Demand 1: a refused call leaves everything lent to it as before.
@@ -46,6 +49,10 @@ question-of-run = question.question-of-run
 pub claim-of-run : ClaimOfRun
 claim-of-run = claim.claim-of-run
 
+-- A lookup tells that a road of the map runs there, that one runs only the other way, or that neither does.
+pub road-of-run : RoadOfRun
+road-of-run = road.road-of-run
+
 -- Each stamp of a run is given once: of two accepted changes the later has the higher one.
 pub stamps-of-run : StampsOfRun
 stamps-of-run = stamps.stamps-of-run
@@ -54,8 +61,8 @@ stamps-of-run = stamps.stamps-of-run
 pub distance-of-run : DistanceOfRun
 distance-of-run = ways.distance-of-run
 
--- Any two outcomes that a contract allows are equal, the reply of the code and what the call leaves behind: of an opening always, and of a change and of
--- a question where the memory has no opened head, a number is out of its range, or the memory shows a map and a fleet.
+-- Any two outcomes that a contract allows are equal, the reply of the code and what the call leaves behind: of an opening always, and of a change, of a
+-- question and of a lookup where the memory has no opened head, a number is out of its range, or the memory shows a map and a fleet.
 module _ (r t : Reply) (k l : List ℕ) where
   pub open-determined : (bytes mem : List ℕ) (start : ℕ) → Opened bytes mem start (answered r) k → Opened bytes mem start (answered t) l → (r ≡ t) × (k ≡ l)
   open-determined bytes mem start x y =
@@ -69,6 +76,10 @@ module _ (r t : Reply) (k l : List ℕ) where
       → Asked mem x n out (answered r) k → Asked mem x n out (answered t) l → (r ≡ t) × (k ≡ l)
   question-determined x n mem out known u v =
       let same = determined.question-determined x n mem out known (answered r) (answered t) k l u v in (answered-same r t (same .0), same .1)
+
+-- A lookup leaves nothing behind but its reply.
+pub look-determined : (r t : Reply) (l : Look) (mem : List ℕ) → Determinate mem true → Looked l mem (answered r) → Looked l mem (answered t) → r ≡ t
+look-determined r t l mem known x y = answered-same r t (determined.look-determined l mem known (answered r) (answered t) x y)
 
 -- Whatever part of its memory is lent, a run has no other memory than that.
 pub determinate-of-run : DeterminateOfRun

@@ -1,9 +1,9 @@
-// The core's seven calls, for any bytes, numbers and memory. Each contract is one outcome record of the definitions
+// The core's eight calls, for any bytes, numbers and memory. Each contract is one outcome record of the definitions
 // (crates/calls/specs/Outcome.antt); what follows for any run of calls is listed in proofs/Promises.antt.
 use answers::Reply;
 use fleet::Change;
 ghost use Rattle.answers.specs.Answered.{answered};
-ghost use Rattle.calls.specs.Outcome.{Opened, Added, Moved, Removed, Claimed, Released, Asked};
+ghost use Rattle.calls.specs.Outcome.{Opened, Added, Moved, Removed, Claimed, Released, Asked, LookedUp};
 
 // Opens the map: its distances and empty rows stand in the memory, the fleet is empty and the change count is the start number.
 pub fn open(map: &[u8], memory: &mut [u32], start: u32) -> Reply
@@ -64,4 +64,11 @@ pub fn question(memory: &[u32], vertex: u32, k: u32, answer: &mut [u32]) -> Repl
     ensures { λ r. ⌜ Asked (now (memory .entry)) vertex k (now (answer .entry)) (answered r) (now (answer .exit)) ⌝ }
 {
     ask::question(memory, vertex, k, answer)
+}
+
+// Tells of the road from `from` to `to`: it is one, only the other way is one, or neither is.
+pub fn road(memory: &[u32], from: u32, to: u32) -> Reply
+    ensures { λ r. ⌜ LookedUp (now (memory .entry)) from to (answered r) ⌝ }
+{
+    look::road(memory, from, to)
 }

@@ -1,9 +1,9 @@
 // The core's calls as C functions on numbers and slices, and nothing else. A slice is a pointer and a length. A reply has the refusal, or 0
-// where the call is accepted, and then the stamp, the length or the start number. include/hailtrellis.h declares them for C.
+// where the call is accepted, and then the stamp, the length, the start number, or 0 for a road. include/hailtrellis.h declares them for C.
 use answers::Reply;
 ghost use mathlib.Core.Path.{_≡_};
 ghost use Rattle.answers.specs.Answered.{answered};
-ghost use Rattle.calls.specs.Outcome.{Opened, Added, Moved, Removed, Claimed, Released, Asked};
+ghost use Rattle.calls.specs.Outcome.{Opened, Added, Moved, Removed, Claimed, Released, Asked, LookedUp};
 ghost use Rattle.hailtrellis_c.specs.Replied.{replyOf, Replied};
 
 #[repr(C)]
@@ -89,4 +89,11 @@ pub extern "C" fn hailtrellis_question(
     ensures { λ r. ⌜ Replied (λ a. Asked (now (memory .entry)) vertex k (now (answer .entry)) a (now (answer .exit))) r ⌝ }
 {
     replied(hailtrellis::question(memory, vertex, k, answer))
+}
+
+#[no_mangle]
+pub extern "C" fn hailtrellis_road(memory: &[u32], from: u32, to: u32) -> HailtrellisReply
+    ensures { λ r. ⌜ Replied (LookedUp (now (memory .entry)) from to) r ⌝ }
+{
+    replied(hailtrellis::road(memory, from, to))
 }

@@ -1,6 +1,7 @@
 -- The verdict on a change of a van that stands as its slot says, in a memory that has the roads of the map, is what the definitions say of it.
 -- Assumes nothing.
 use mathlib.Core.Path.{_≡_, refl, ap, subst⁻¹, _∙_}
+use mathlib.Core.Logic.{inl, inr}
 use mathlib.Core.Bool.{true, false}
 use mathlib.Core.List.{List}
 use Prim.Native.Nat.{ℕ, suc, _+_, _<_}
@@ -8,8 +9,9 @@ use native.Mathlib.Omega.{arith}
 use native.Mathlib.Numerals.{add-one}
 use native.Mathlib.Decide.{decLt, ℕ-discrete}
 use lib.Dec.{eqb}
-use borrow.Author.Tests.{le-leb, lt-leb, lt-ltb, le-ltb, eq-eqb, ne-eqb}
+use borrow.Author.Tests.{ltb-true, le-leb, lt-leb, lt-ltb, le-ltb, eq-eqb, ne-eqb}
 use Rattle.words.specs.Tests.{_unless_then_}
+use Rattle.words.proofs.Tests.{true-or-false}
 use Rattle.roads.specs.Map.{Map, roadAt, roadCount, roadBetween}
 use Rattle.maps.specs.Sound.{Sound}
 use Rattle.answers.specs.Answered.{answered}
@@ -17,10 +19,13 @@ use Rattle.counts.specs.declared.Counts.{Counts}
 use Rattle.fleet.specs.State.{Van, Slot, absent, present, State, slotOf, isPresent, isFree, isHeldBy, hasStamp}
 use Rattle.fleet.specs.declared.Change.{Change}
 use Rattle.fleet.specs.declared.Change.the-variants.{Add, Move, Remove, Claim, Release}
-use Rattle.fleet.specs.Change.{refused, inRange, isRoad, offsetFits, countLeft, refusalOf, vanOf, slotAfter}
+use Rattle.fleet.specs.Change.{refused, inRange, isRoad, missing, offsetFits, countLeft, ownRefusal, refusalOf, vanOf, slotAfter}
 use Rattle.van_lists.specs.declared.VanWords.{VanWords}
 use Rattle.van_lists.specs.Slot.{standingWords, stamped}
+use Rattle.road_lookup.specs.declared.Lookup.{Lookup}
+use Rattle.road_lookup.specs.declared.Lookup.the-variants.{Found}
 use Rattle.road_lookup.specs.Lookup.{RoadsKnown}
+use Rattle.road_lookup.specs.Answer.{lookupOf}
 use Rattle.refusals.specs.declared.Verdict.{Verdict}
 use Rattle.refusals.specs.declared.Verdict.the-variants.{Refuse, Stand}
 use Rattle.refusals.specs.Verdict.{weightIn, placing, adding, moving, removing, claiming, releasing, OnRoad, HasVerdict}
@@ -38,37 +43,46 @@ module _ (m : Map) (s : State) (c : Change) where
   agrees-by : (verdict is : Verdict) → verdict ≡ is → VerdictAgrees m s c is → VerdictAgrees m s c verdict
   agrees-by verdict is e a = subst⁻¹ (VerdictAgrees m s c) e a
 
-  -- on a road: what is left to refuse is the road, the offset and the count
-  placing-agrees : (state u v offset roads road weight : ℕ) → road ≡ roadBetween (m .roads) u v → roads ≡ roadCount m → (road < roads → weight ≡ roadAt m road .weight)
-      → refusalOf m s c ≡ (10 unless isRoad m u v then 11 unless offsetFits m u v offset then 15 unless countLeft s then 0)
-      → ((stamp : ℕ) → stamped (record { state = state; road = road; offset = offset; stamp = 0 }) stamp ≡ standingWords (slotAfter m c stamp (slotOf s (vanOf c))))
-      → VerdictAgrees m s c (placing state roads road weight offset)
-  placing-agrees state u v offset roads road weight found all weighs refusal stands =
-      elim (decLt road roads) [ yes there ↦ on-road there | no none ↦ off-road none ]
+  -- on a road that is looked up: what is left to refuse is the road, the offset and the count
+  placing-agrees : (mem : List ℕ) (counts : Counts) (state u v offset : ℕ) (lookup : Lookup) → lookup ≡ lookupOf m u v
+      → ((i : ℕ) → i < roadCount m → weightIn mem counts i ≡ roadAt m i .weight)
+      → refusalOf m s c ≡ (missing m u v unless isRoad m u v then 11 unless offsetFits m u v offset then 15 unless countLeft s then 0)
+      → ((stamp : ℕ) → stamped (record { state = state; road = roadBetween (m .roads) u v; offset = offset; stamp = 0 }) stamp ≡ standingWords (slotAfter m c stamp (slotOf s (vanOf c))))
+      → VerdictAgrees m s c (placing mem counts state lookup offset)
+  placing-agrees mem counts state u v offset lookup found weights refusal stands =
+      subst⁻¹ (λ (l : Lookup). VerdictAgrees m s c (placing mem counts state l offset)) found
+      (elim (true-or-false (isRoad m u v)) [
+        | inl is-road ↦ on-road is-road
+        | inr none ↦ elim (true-or-false (isRoad m v u)) [ inl back ↦ wrong-way none back | inr neither ↦ no-road none neither ]
+      ])
     where
-      off-road : ¬ (road < roads) → VerdictAgrees m s c (placing state roads road weight offset)
-      off-road none =
-          let no-road : isRoad m u v ≡ false = le-ltb _ (roadCount m) (omega (arith, found, all)) in
-          rw (le-leb roads road (omega arith)) (9, refusal ∙ simp no-road, refl)
+      Placed : Lookup → Type 0
+      Placed l = VerdictAgrees m s c (placing mem counts state l offset)
 
-      on-road : road < roads → VerdictAgrees m s c (placing state roads road weight offset)
-      on-road there = elim (decLt weight offset) [ yes far ↦ too-far far | no near ↦ in-place near ]
+      no-road : isRoad m u v ≡ false → isRoad m v u ≡ false → Placed (lookupOf m u v)
+      no-road none neither = rw (none, neither) (9, refusal ∙ simp (none, neither), refl)
+
+      wrong-way : isRoad m u v ≡ false → isRoad m v u ≡ true → Placed (lookupOf m u v)
+      wrong-way none back = rw (none, back) (19, refusal ∙ simp (none, back), refl)
+
+      on-road : isRoad m u v ≡ true → Placed (lookupOf m u v)
+      on-road is-road = rw is-road (elim (decLt (weightIn mem counts road) offset) [ yes far ↦ too-far far | no near ↦ in-place near ])
         where
-          is-road : isRoad m u v ≡ true
-          is-road = lt-ltb _ (roadCount m) (omega (arith, found, all))
+          road : ℕ
+          road = roadBetween (m .roads) u v
 
-          weight-is : weight ≡ roadAt m (roadBetween (m .roads) u v) .weight
-          weight-is = weighs there ∙ ap (λ (k : ℕ). roadAt m k .weight) found
+          weight-is : weightIn mem counts road ≡ roadAt m road .weight
+          weight-is = weights road (ltb-true road (roadCount m) is-road)
 
-          too-far : weight < offset → VerdictAgrees m s c (placing state roads road weight offset)
+          too-far : weightIn mem counts road < offset → Placed (Found road)
           too-far far =
               let above : offsetFits m u v offset ≡ false = lt-leb offset _ (omega (arith, weight-is)) in
-              rw (lt-leb roads road there, lt-ltb weight offset far) (10, refusal ∙ simp (is-road, above), refl)
+              rw (lt-ltb (weightIn mem counts road) offset far) (10, refusal ∙ simp (is-road, above), refl)
 
-          in-place : ¬ (weight < offset) → VerdictAgrees m s c (placing state roads road weight offset)
+          in-place : ¬ (weightIn mem counts road < offset) → Placed (Found road)
           in-place near =
               let fits : offsetFits m u v offset ≡ true = le-leb offset _ (omega (arith, weight-is)) in
-              rw (lt-leb roads road there, le-ltb weight offset (omega arith)) (refusal ∙ simp (is-road, fits), stands)
+              rw (le-ltb (weightIn mem counts road) offset (omega arith)) (refusal ∙ simp (is-road, fits), stands)
 
 -- the test of the words of a van that is there
 not-none : (v : Van) → eqb (standingWords (present v) .state) 0 ≡ false
@@ -76,39 +90,33 @@ not-none v = ne-eqb (suc (v .holder)) 0 (omega arith)
 
 module _ (m : Map) (s : State) (mem : List ℕ) (counts : Counts) (sound : Sound m) (stand : RoadsKnown m counts mem)
     (weights : (i : ℕ) → i < roadCount m → weightIn mem counts i ≡ roadAt m i .weight) where
-  -- what is known of a road that is found
-  weight-there : (road : ℕ) → road < counts .roads → weightIn mem counts road ≡ roadAt m road .weight
-  weight-there road h = weights road (omega (arith, stand .roads))
-
   add-agrees : (van u v offset : ℕ) (slot : Slot) → slotOf s van ≡ slot → inRange (Add van u v offset) ≡ true → (verdict : Verdict)
-      → OnRoad mem counts u v (λ road weight. adding (standingWords slot) (counts .roads) road weight offset) verdict → VerdictAgrees m s (Add van u v offset) verdict
-  unfolding refusalOf slotAfter
+      → OnRoad mem counts u v (λ road. adding mem counts (standingWords slot) road offset) verdict → VerdictAgrees m s (Add van u v offset) verdict
+  unfolding refusalOf ownRefusal slotAfter
   add-agrees van u v offset (present w) is ok verdict j =
       let there : isPresent (slotOf s van) ≡ true = ap isPresent is in
       agrees-by m s (Add van u v offset) verdict _ (j .is) (rw (not-none w) (8, simp (ok, there), refl))
   add-agrees van u v offset absent is ok verdict j =
       let none : isPresent (slotOf s van) ≡ false = ap isPresent is in
-      let found : j .road ≡ roadBetween (m .roads) u v = j .found m sound stand in
       agrees-by m s (Add van u v offset) verdict _ (j .is)
-      (placing-agrees m s (Add van u v offset) 1 u v offset (counts .roads) (j .road) (weightIn mem counts (j .road)) found (stand .roads) (weight-there (j .road))
-      (simp (ok, none)) (λ stamp. rw (is, found) (stamped-suc 0 (roadBetween (m .roads) u v) offset 0 stamp)))
+      (placing-agrees m s (Add van u v offset) mem counts 1 u v offset (j .road) (j .found m sound stand) weights
+      (simp (ok, none)) (λ stamp. rw is (stamped-suc 0 (roadBetween (m .roads) u v) offset 0 stamp)))
 
   move-agrees : (van u v offset : ℕ) (slot : Slot) → slotOf s van ≡ slot → inRange (Move van u v offset) ≡ true → (verdict : Verdict)
-      → OnRoad mem counts u v (λ road weight. moving (standingWords slot) (counts .roads) road weight offset) verdict → VerdictAgrees m s (Move van u v offset) verdict
-  unfolding refusalOf slotAfter
+      → OnRoad mem counts u v (λ road. moving mem counts (standingWords slot) road offset) verdict → VerdictAgrees m s (Move van u v offset) verdict
+  unfolding refusalOf ownRefusal slotAfter
   move-agrees van u v offset absent is ok verdict j =
       let none : isPresent (slotOf s van) ≡ false = ap isPresent is in
       agrees-by m s (Move van u v offset) verdict _ (j .is) (7, simp (ok, none), refl)
   move-agrees van u v offset (present w) is ok verdict j =
       let there : isPresent (slotOf s van) ≡ true = ap isPresent is in
-      let found : j .road ≡ roadBetween (m .roads) u v = j .found m sound stand in
       agrees-by m s (Move van u v offset) verdict _ (j .is)
-      (rw (not-none w) (placing-agrees m s (Move van u v offset) (suc (w .holder)) u v offset (counts .roads) (j .road) (weightIn mem counts (j .road)) found (stand .roads) (weight-there (j .road))
-      (simp (ok, there)) (λ stamp. rw (is, found) (stamped-suc (w .holder) (roadBetween (m .roads) u v) offset 0 stamp))))
+      (rw (not-none w) (placing-agrees m s (Move van u v offset) mem counts (suc (w .holder)) u v offset (j .road) (j .found m sound stand) weights
+      (simp (ok, there)) (λ stamp. rw is (stamped-suc (w .holder) (roadBetween (m .roads) u v) offset 0 stamp))))
 
 module _ (m : Map) (s : State) where
   remove-agrees : (van : ℕ) (slot : Slot) → slotOf s van ≡ slot → inRange (Remove van) ≡ true → VerdictAgrees m s (Remove van) (removing (standingWords slot))
-  unfolding refusalOf slotAfter
+  unfolding refusalOf ownRefusal slotAfter
   remove-agrees van absent is ok =
       let none : isPresent (slotOf s van) ≡ false = ap isPresent is in
       (7, simp (ok, none), refl)
@@ -128,7 +136,7 @@ module _ (m : Map) (s : State) where
           rw (not-none w, lt-ltb 1 (suc (w .holder)) (omega arith)) (11, simp (ok, there, not-free), refl)
 
   claim-agrees : (van stamp desk : ℕ) (slot : Slot) → slotOf s van ≡ slot → inRange (Claim van stamp desk) ≡ true → VerdictAgrees m s (Claim van stamp desk) (claiming (standingWords slot) stamp desk)
-  unfolding refusalOf slotAfter
+  unfolding refusalOf ownRefusal slotAfter
   claim-agrees van stamp desk absent is ok =
       let none : isPresent (slotOf s van) ≡ false = ap isPresent is in
       (7, simp (ok, none), refl)
@@ -158,7 +166,7 @@ module _ (m : Map) (s : State) where
           rw (not-none w, ne-eqb (suc (w .holder)) 1 (omega arith)) (11, simp (ok, there, not-free), refl)
 
   release-agrees : (van desk : ℕ) (slot : Slot) → slotOf s van ≡ slot → inRange (Release van desk) ≡ true → VerdictAgrees m s (Release van desk) (releasing (standingWords slot) desk)
-  unfolding refusalOf slotAfter
+  unfolding refusalOf ownRefusal slotAfter
   release-agrees van desk absent is ok =
       let none : isPresent (slotOf s van) ≡ false = ap isPresent is in
       (7, simp (ok, none), refl)

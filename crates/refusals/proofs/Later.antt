@@ -6,9 +6,9 @@ use mathlib.Core.Bool.{Bool, true, false, cond}
 use mathlib.Core.List.{List}
 use Prim.Native.Nat.{ℕ, _+_}
 use native.Mathlib.Omega.{arith}
-use lib.Dec.{leb, ltb, eqb}
+use lib.Dec.{ltb, eqb}
 use Rattle.answers.specs.Answered.{answered}
-use Rattle.answers.specs.declared.Reply.the-variants.{NoSuchVan, VanPresent, NoRoad, OffsetAboveWeight, VanHeld, NotHeldByDesk, StampDiffers}
+use Rattle.answers.specs.declared.Reply.the-variants.{NoSuchVan, VanPresent, OffsetAboveWeight, VanHeld, NotHeldByDesk, StampDiffers}
 use Rattle.counts.specs.declared.Counts.{Counts}
 use Rattle.fleet.specs.State.{absent}
 use Rattle.fleet.specs.declared.Change.{Change}
@@ -16,6 +16,8 @@ use Rattle.fleet.specs.declared.Change.the-variants.{Add, Move, Remove, Claim, 
 use Rattle.fleet.specs.Change.{numberOf}
 use Rattle.van_lists.specs.declared.VanWords.{VanWords}
 use Rattle.van_lists.specs.Slot.{standingWords}
+use Rattle.road_lookup.specs.declared.Lookup.{Lookup}
+use Rattle.road_lookup.specs.declared.Lookup.the-variants.{Found, OtherWay, Neither}
 use Rattle.refusals.specs.declared.Verdict.{Verdict}
 use Rattle.refusals.specs.declared.Verdict.the-variants.{Refuse, Stand}
 use Rattle.refusals.specs.Verdict.{weightIn, placing, adding, moving, removing, claiming, releasing, HasVerdict}
@@ -35,24 +37,21 @@ no-van = (λ e. omega arith, λ e. omega arith)
 held : Later (Refuse VanHeld)
 held = (λ e. omega arith, λ e. omega arith)
 
-module _ (state roads road weight offset : ℕ) where
-  there : Verdict
-  there = Stand (record { state = state; road = road; offset = offset; stamp = 0 })
-
-  placing-later : Later (placing state roads road weight offset)
-  unfolding there
-  placing-later =
-      later-if (leb roads road) (Refuse NoRoad) (cond (ltb weight offset) (Refuse OffsetAboveWeight) there) (λ e. omega arith, λ e. omega arith)
-      (later-if (ltb weight offset) (Refuse OffsetAboveWeight) there (λ e. omega arith, λ e. omega arith) tt)
+placing-later : (mem : List ℕ) (counts : Counts) (state : ℕ) (lookup : Lookup) (offset : ℕ) → Later (placing mem counts state lookup offset)
+placing-later mem counts state (Found road) offset =
+    later-if (ltb (weightIn mem counts road) offset) (Refuse OffsetAboveWeight) (Stand (record { state = state; road = road; offset = offset; stamp = 0 }))
+    (λ e. omega arith, λ e. omega arith) tt
+placing-later mem counts state OtherWay offset = (λ e. omega arith, λ e. omega arith)
+placing-later mem counts state Neither offset = (λ e. omega arith, λ e. omega arith)
 
 module _ (old : VanWords) where
-  adding-later : (roads road weight offset : ℕ) → Later (adding old roads road weight offset)
-  adding-later roads road weight offset =
-      later-if (eqb (old .state) 0) (placing 1 roads road weight offset) (Refuse VanPresent) (placing-later 1 roads road weight offset) (λ e. omega arith, λ e. omega arith)
+  adding-later : (mem : List ℕ) (counts : Counts) (lookup : Lookup) (offset : ℕ) → Later (adding mem counts old lookup offset)
+  adding-later mem counts lookup offset =
+      later-if (eqb (old .state) 0) (placing mem counts 1 lookup offset) (Refuse VanPresent) (placing-later mem counts 1 lookup offset) (λ e. omega arith, λ e. omega arith)
 
-  moving-later : (roads road weight offset : ℕ) → Later (moving old roads road weight offset)
-  moving-later roads road weight offset =
-      later-if (eqb (old .state) 0) (Refuse NoSuchVan) (placing (old .state) roads road weight offset) no-van (placing-later (old .state) roads road weight offset)
+  moving-later : (mem : List ℕ) (counts : Counts) (lookup : Lookup) (offset : ℕ) → Later (moving mem counts old lookup offset)
+  moving-later mem counts lookup offset =
+      later-if (eqb (old .state) 0) (Refuse NoSuchVan) (placing mem counts (old .state) lookup offset) no-van (placing-later mem counts (old .state) lookup offset)
 
   removing-later : Later (removing old)
   removing-later =
@@ -79,8 +78,8 @@ module _ (old : VanWords) where
       stands = Stand (record { state = 1; road = old .road; offset = old .offset; stamp = 0 })
 
 pub judged-later : (mem : List ℕ) (counts : Counts) (old : VanWords) (c : Change) (verdict : Verdict) → HasVerdict mem counts old c verdict → Later verdict
-judged-later mem counts old (Add van u v offset) verdict j = subst⁻¹ Later (j .is) (adding-later old (counts .roads) (j .road) (weightIn mem counts (j .road)) offset)
-judged-later mem counts old (Move van u v offset) verdict j = subst⁻¹ Later (j .is) (moving-later old (counts .roads) (j .road) (weightIn mem counts (j .road)) offset)
+judged-later mem counts old (Add van u v offset) verdict j = subst⁻¹ Later (j .is) (adding-later old mem counts (j .road) offset)
+judged-later mem counts old (Move van u v offset) verdict j = subst⁻¹ Later (j .is) (moving-later old mem counts (j .road) offset)
 judged-later mem counts old (Remove van) verdict j = subst⁻¹ Later j (removing-later old)
 judged-later mem counts old (Claim van stamp desk) verdict j = subst⁻¹ Later j (claiming-later old stamp desk)
 judged-later mem counts old (Release van desk) verdict j = subst⁻¹ Later j (releasing-later old desk)

@@ -6,7 +6,8 @@ use counts::Counts;
 use fleet::Change;
 use layout::RoadRecord;
 use places::road_at;
-use road_lookup::road_between;
+use road_lookup::Lookup;
+use road_lookup::look_up;
 use van_lists::VanWords;
 ghost use mathlib.Core.Path.{_≡_};
 ghost use Prim.Native.Nat.{_<_};
@@ -25,40 +26,43 @@ fn road_weight(mem: &[u32], counts: Counts, road: u32) -> u32
     word(mem, road_at(counts, road) + RoadRecord::WEIGHT)
 }
 
-// A place on a road of this weight, one of so many; the van's first word is `state`.
-fn placing(state: u32, roads: u32, road: u32, weight: u32, offset: u32) -> Verdict
-    ensures { λ r. ⌜ r ≡ placing state roads road weight offset ⌝ }
+// A place on the road that was looked up; the van's first word is `state`.
+fn placing(mem: &[u32], counts: Counts, state: u32, lookup: Lookup, offset: u32) -> Verdict
+    ensures { λ r. ⌜ r ≡ placing (now (mem .entry)) counts state lookup offset ⌝ }
 {
-    if roads <= road {
-        return Verdict::Refuse(Reply::NoRoad);
+    match lookup {
+        Lookup::Found(road) => {
+            if road_weight(mem, counts, road) < offset {
+                return Verdict::Refuse(Reply::OffsetAboveWeight);
+            }
+            Verdict::Stand(VanWords {
+                state,
+                road,
+                offset,
+                stamp: 0,
+            })
+        }
+        Lookup::OtherWay => Verdict::Refuse(Reply::WrongWay),
+        Lookup::Neither => Verdict::Refuse(Reply::NoRoad),
     }
-    if weight < offset {
-        return Verdict::Refuse(Reply::OffsetAboveWeight);
-    }
-    Verdict::Stand(VanWords {
-        state,
-        road,
-        offset,
-        stamp: 0,
-    })
 }
 
-fn adding(old: VanWords, roads: u32, road: u32, weight: u32, offset: u32) -> Verdict
-    ensures { λ r. ⌜ r ≡ adding old roads road weight offset ⌝ }
+fn adding(mem: &[u32], counts: Counts, old: VanWords, lookup: Lookup, offset: u32) -> Verdict
+    ensures { λ r. ⌜ r ≡ adding (now (mem .entry)) counts old lookup offset ⌝ }
 {
     if old.state != 0 {
         return Verdict::Refuse(Reply::VanPresent);
     }
-    placing(VanWords::FREE, roads, road, weight, offset)
+    placing(mem, counts, VanWords::FREE, lookup, offset)
 }
 
-fn moving(old: VanWords, roads: u32, road: u32, weight: u32, offset: u32) -> Verdict
-    ensures { λ r. ⌜ r ≡ moving old roads road weight offset ⌝ }
+fn moving(mem: &[u32], counts: Counts, old: VanWords, lookup: Lookup, offset: u32) -> Verdict
+    ensures { λ r. ⌜ r ≡ moving (now (mem .entry)) counts old lookup offset ⌝ }
 {
     if old.state == 0 {
         return Verdict::Refuse(Reply::NoSuchVan);
     }
-    placing(old.state, roads, road, weight, offset)
+    placing(mem, counts, old.state, lookup, offset)
 }
 
 fn removing(old: VanWords) -> Verdict
@@ -150,9 +154,8 @@ pub fn judged(mem: &[u32], counts: Counts, old: VanWords, change: Change) -> Ver
             to,
             offset,
         } => {
-            let road = road_between(mem, counts, from, to);
-            let weight = road_weight(mem, counts, road);
-            adding(old, counts.roads, road, weight, offset)
+            let lookup = look_up(mem, counts, from, to);
+            adding(mem, counts, old, lookup, offset)
         }
         Change::Move {
             van: _,
@@ -160,9 +163,8 @@ pub fn judged(mem: &[u32], counts: Counts, old: VanWords, change: Change) -> Ver
             to,
             offset,
         } => {
-            let road = road_between(mem, counts, from, to);
-            let weight = road_weight(mem, counts, road);
-            moving(old, counts.roads, road, weight, offset)
+            let lookup = look_up(mem, counts, from, to);
+            moving(mem, counts, old, lookup, offset)
         }
         Change::Remove { van: _ } => removing(old),
         Change::Claim {

@@ -3,3 +3,5 @@ pub mod Chain
 pub mod Narrowed
 pub mod Sorted
 pub mod Found
+pub mod Answer
+pub mod Shown

@@ -1,4 +1,5 @@
-// The road from one vertex to another, by binary search over the roads of the first. Any numbers and any words are taken.
+// The road from one vertex to another, by binary search over the roads of the first; where there is none, whether there is one the other way.
+// Any numbers and any words are taken.
 use cells::word;
 use counts::Counts;
 use layout::RoadRecord;
@@ -7,6 +8,17 @@ use places::road_at;
 use places::vertex_at;
 ghost use mathlib.Core.Path.{_≡_};
 ghost use Rattle.road_lookup.specs.Lookup.{endIn, firstRoadIn, FirstTo, Between};
+ghost use Rattle.road_lookup.specs.Answer.{LookedUp};
+
+// What looking up a road comes to.
+pub enum Lookup {
+    // the road's number
+    Found(u32),
+    // it is no road, but the other way is one
+    OtherWay,
+    // neither way is a road
+    Neither,
+}
 
 // The end of a road.
 pub fn road_end(mem: &[u32], counts: Counts, road: u32) -> u32
@@ -60,4 +72,19 @@ pub fn road_between(mem: &[u32], counts: Counts, from: u32, to: u32) -> u32
         return counts.roads;
     }
     road
+}
+
+// The lookup of the road from `from` to `to`. The other way is looked at only where that is none.
+pub fn look_up(mem: &[u32], counts: Counts, from: u32, to: u32) -> Lookup
+    ensures { λ r. ⌜ LookedUp (now (mem .entry)) counts from to r ⌝ }
+{
+    let road = road_between(mem, counts, from, to);
+    if road < counts.roads {
+        return Lookup::Found(road);
+    }
+    let back = road_between(mem, counts, to, from);
+    if back < counts.roads {
+        return Lookup::OtherWay;
+    }
+    Lookup::Neither
 }

@@ -75,6 +75,13 @@ impl Engine {
         records.zip(vans).all(|(record, van)| record[..4] == *van)
     }
 
+    /// Looks up a road; the answer's number.
+    pub fn road(&self, from: u32, to: u32) -> u32 {
+        let (memory, length) = (self.memory.as_ptr(), self.memory.len());
+        // Safety: the memory is lent to read for its length
+        unsafe { sys::hailtrellis_road(memory, length, from, to) }.code
+    }
+
     /// Lists the k nearest vans into the answer words; the length of the list.
     pub fn question(&self, vertex: u32, k: u32, answer: &mut [u32]) -> usize {
         let (memory, length) = (self.memory.as_ptr(), self.memory.len());

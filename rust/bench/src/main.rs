@@ -1,6 +1,6 @@
 //! Measures the proved code against plain Rust, on the same input and in the same run, and compares what both give.
 //!
-//! `bench NAME` measures one thing (`search`, `judge`, `opening`, `changes`, `question`) and prints a table. `bench all` measures
+//! `bench NAME` measures one thing (`search`, `judge`, `opening`, `changes`, `lookup`, `question`) and prints a table. `bench all` measures
 //! everything and writes `docs/bench.csv` and the tables of `docs/BENCH.md`. `--rounds N` takes the least of N rounds instead of the usual
 //! number, `--csv FILE` writes the results of one thing as lines `chart,cell,series,value`.
 
@@ -9,6 +9,7 @@ mod changes;
 mod dijkstra;
 mod engine;
 mod judge;
+mod lookup;
 mod nearest;
 mod opening;
 mod plain_fleet;
@@ -24,11 +25,12 @@ use std::path::{Path, PathBuf};
 
 type Measure = fn(Option<usize>) -> Section;
 
-const ALL: [(&str, Measure); 5] = [
+const ALL: [(&str, Measure); 6] = [
     ("search", search::run),
     ("judge", judge::run),
     ("opening", opening::run),
     ("changes", changes::run),
+    ("lookup", lookup::run),
     ("question", question::run),
 ];
 

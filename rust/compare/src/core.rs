@@ -41,6 +41,7 @@ pub fn call(call: Call, memory: &mut [u32], answer: &mut [u32]) -> Reply {
                 let (list, list_length) = (answer.as_mut_ptr(), answer.len());
                 sys::hailtrellis_question(words, length, vertex, k, list, list_length)
             }
+            Call::Road { from, to } => sys::hailtrellis_road(words, length, from, to),
         }
     })
 }

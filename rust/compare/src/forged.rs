@@ -1,7 +1,7 @@
 //! Calls on memory with an opened head that no opening left behind.
 //!
 //! There 6 and 7 are given as ever. Beyond that a call only returns, stays in bounds, keeps the words beyond those used and
-//! changes nothing if it refuses; a question changes no word of the memory at all.
+//! changes nothing if it refuses; a question and a lookup change no word of the memory at all.
 
 use crate::case::{Case, Ground, Step};
 use crate::core;
@@ -174,7 +174,7 @@ fn forged_call(dice: &mut Dice, words: &[u32]) -> Call {
         false => (dice.below(vertices) as u32, dice.below(vertices) as u32),
     };
     let offset = *dice.pick(&[0, 0, 1, 1_000_000]);
-    match dice.below(12) {
+    match dice.below(13) {
         0..3 => Call::Add {
             van,
             from,
@@ -194,6 +194,7 @@ fn forged_call(dice: &mut Dice, words: &[u32]) -> Call {
             Call::Claim { van, stamp, desk }
         }
         8 => Call::Release { van, desk },
+        9 => Call::Road { from, to },
         _ => {
             let k = match dice.chance(5) {
                 true => *dice.pick(&[0, 33]),
@@ -241,7 +242,7 @@ fn out_of_range(call: Call, memory: &[u32]) -> bool {
         Call::Add { van, .. } | Call::Move { van, .. } | Call::Remove { van } => no_van(van),
         Call::Claim { van, desk, .. } | Call::Release { van, desk } => no_van(van) || no_desk(desk),
         Call::Question { vertex, k, .. } => vertex >= memory[2] || !(1..=LISTED).contains(&k),
-        Call::Open { .. } | Call::OpenDamaged { .. } => false,
+        Call::Road { .. } | Call::Open { .. } | Call::OpenDamaged { .. } => false,
     }
 }
 
@@ -282,8 +283,8 @@ pub fn run(case: &Case, tally: &mut Tally) -> Result<(), String> {
         if given.code != 0 && (0..answer.len()).any(|i| answer[i] != blank(i)) {
             return wrong("refused, and the answer words changed".to_string());
         }
-        let question = matches!(step.call, Call::Question { .. });
-        let kept_from = match given.code != 0 || question {
+        let reads = matches!(step.call, Call::Question { .. } | Call::Road { .. });
+        let kept_from = match given.code != 0 || reads {
             true => 0,
             false => before[1] as usize,
         };

@@ -81,6 +81,7 @@ impl Pair {
                 k,
                 answer_words,
             } => self.question(step.call, lent, vertex, k, answer_words, tally),
+            Call::Road { from, to } => self.road(step.call, lent, from, to),
             call => self.change(call, lent),
         }
         .map_err(|difference| format!("{}: {difference}", step.call))?;
@@ -162,6 +163,18 @@ impl Pair {
         }
         tally.listed += length.unwrap_or(0) as u64;
         self.same_reply(given, reply(length.map_err(|&refusal| refusal)))?;
+        self.same_memory()?;
+        Ok(given)
+    }
+
+    /// Looks up a road.
+    fn road(&mut self, call: Call, lent: usize, from: u32, to: u32) -> Result<Reply, String> {
+        let answered = match opened_head(&self.expected[..lent]) {
+            true => self.state.road(from, to),
+            false => Err(6),
+        };
+        let given = core::call(call, &mut self.memory[..lent], &mut []);
+        self.same_reply(given, reply(answered))?;
         self.same_memory()?;
         Ok(given)
     }

@@ -144,7 +144,8 @@ impl Engine {
     /// assert_eq!(engine.add(Van(7), Vertex(2), Vertex(3), 5), Ok(Stamp(101)));
     /// assert_eq!(engine.add(Van(7), Vertex(2), Vertex(3), 5), Err(Refusal::VanPresent));
     /// assert_eq!(engine.add(Van(8), Vertex(2), Vertex(3), 6), Err(Refusal::OffsetAboveWeight));
-    /// assert_eq!(engine.add(Van(8), Vertex(1), Vertex(4), 0), Err(Refusal::NoRoad));
+    /// assert_eq!(engine.add(Van(8), Vertex(0), Vertex(4), 0), Err(Refusal::NoRoad));
+    /// assert_eq!(engine.add(Van(8), Vertex(1), Vertex(4), 0), Err(Refusal::WrongWay));
     /// ```
     pub fn add(
         &mut self,
@@ -262,6 +263,21 @@ impl Engine {
                 stamp: Stamp(van[2]),
             })
             .collect())
+    }
+
+    /// Tells of the road (from, to): that it is one, that only (to, from) is one, or that neither is.
+    ///
+    /// ```
+    /// # use hailtrellis::{Engine, Refusal, Vertex};
+    /// # let engine = Engine::open(&hailtrellis::small_map(), 100).unwrap();
+    /// assert_eq!(engine.road(Vertex(4), Vertex(1)), Ok(()));
+    /// assert_eq!(engine.road(Vertex(1), Vertex(4)), Err(Refusal::WrongWay));
+    /// assert_eq!(engine.road(Vertex(0), Vertex(4)), Err(Refusal::NoRoad));
+    /// ```
+    pub fn road(&self, from: Vertex, to: Vertex) -> Result<(), Refusal> {
+        let (memory, length) = (self.memory.as_ptr(), self.memory.len());
+        // Safety: the memory is ours and lent to read for its length.
+        accepted(unsafe { sys::hailtrellis_road(memory, length, from.0, to.0) }).map(|_| ())
     }
 
     /// How many changes have been accepted, counted on from the start number: the last stamp given.

@@ -25,7 +25,7 @@ pub enum Refusal {
     NoSuchVan = 8,
     /// 9: van already present.
     VanPresent = 9,
-    /// 10: no road (u, v), also where u or v is no vertex.
+    /// 10: neither (u, v) nor (v, u) is a road, also where u or v is no vertex.
     NoRoad = 10,
     /// 11: offset above the weight.
     OffsetAboveWeight = 11,
@@ -37,11 +37,13 @@ pub enum Refusal {
     StampDiffers = 14,
     /// 15: change count is 4,294,967,295.
     CountFull = 15,
+    /// 20: (u, v) is no road but (v, u) is.
+    WrongWay = 20,
 }
 
 impl Refusal {
     /// All refusals, in the order of their numbers.
-    pub const ALL: [Refusal; 15] = [
+    pub const ALL: [Refusal; 16] = [
         Refusal::MapRecord,
         Refusal::MapCounts,
         Refusal::MapParts,
@@ -57,9 +59,10 @@ impl Refusal {
         Refusal::NotHeldByDesk,
         Refusal::StampDiffers,
         Refusal::CountFull,
+        Refusal::WrongWay,
     ];
 
-    /// The scope's number of the refusal, 1 to 15.
+    /// The scope's number of the refusal: 1 to 15, or 20.
     ///
     /// ```
     /// assert_eq!(hailtrellis::Refusal::VanHeld.number(), 12);
@@ -96,12 +99,13 @@ impl fmt::Display for Refusal {
             Refusal::OutOfRange => "van, desk, k or the asked vertex is outside its range",
             Refusal::NoSuchVan => "no such van",
             Refusal::VanPresent => "the van is already present",
-            Refusal::NoRoad => "no such road",
+            Refusal::NoRoad => "no such road, nor one the other way",
             Refusal::OffsetAboveWeight => "the offset is above the road's weight",
             Refusal::VanHeld => "the van is held",
             Refusal::NotHeldByDesk => "the van is not held by this desk",
             Refusal::StampDiffers => "the stamp differs from the van's",
             Refusal::CountFull => "the change count is at its end",
+            Refusal::WrongWay => "no such road, but one the other way",
         })
     }
 }

@@ -9,7 +9,7 @@
 pub struct Reply {
     /// 0 if the call was accepted, otherwise the number of the refusal.
     pub code: u32,
-    /// The start number, the new stamp or the length of the list; 0 if the call was refused.
+    /// The start number, the new stamp or the length of the list; 0 for a road that was looked up, and if the call was refused.
     pub value: u32,
 }
 
@@ -88,4 +88,10 @@ extern "C" {
         answer: *mut u32,
         answer_len: usize,
     ) -> Reply;
+
+    /// Tells of the road (from, to): accepted with 0 if it is one, refused by whether (to, from) is one if not.
+    ///
+    /// # Safety
+    /// `memory` must be readable for `memory_len` words.
+    pub fn hailtrellis_road(memory: *const u32, memory_len: usize, from: u32, to: u32) -> Reply;
 }

@@ -94,6 +94,25 @@ fn refusals_have_numbers_and_texts() {
 }
 
 #[test]
+fn a_road_is_told_from_one_that_is_only_the_other_way() {
+    let mut engine = opened(0);
+    let before = engine.memory().to_vec();
+    for (from, to, told) in [
+        (4, 1, Ok(())),
+        (1, 4, Err(Refusal::WrongWay)),
+        (0, 4, Err(Refusal::NoRoad)),
+        (4, 4, Err(Refusal::NoRoad)),
+        (4, 5, Err(Refusal::NoRoad)),
+        (u32::MAX, 4, Err(Refusal::NoRoad)),
+    ] {
+        assert_eq!(engine.road(Vertex(from), Vertex(to)), told);
+    }
+    assert_eq!(engine.memory(), before);
+    let against = engine.add(Van(7), Vertex(1), Vertex(4), 0);
+    assert_eq!(against, Err(Refusal::WrongWay));
+}
+
+#[test]
 fn an_engine_can_be_shared_between_threads() {
     fn shared<T: Send + Sync>(_: &T) {}
     shared(&opened(0));

@@ -8,7 +8,7 @@
 //! - [`judge`] takes a map's bytes to a [`Map`] or a refusal 1 to 4, in the order of the scope.
 //! - [`need`] is how many words of memory a sound map needs.
 //! - [`OpenedMap`] is a map with its distances, its row vertices and the places of its words.
-//! - [`State`] is an opened map with a fleet: the five changes and the question, with their refusals.
+//! - [`State`] is an opened map with a fleet: the five changes, the question and looking up a road, with their refusals.
 //! - [`State::image`] is the whole memory that an opening and the calls after it leave, as words.
 //!
 //! ```

@@ -1,4 +1,4 @@
-//! The fleet on an opened map: the five changes and the question.
+//! The fleet on an opened map: the five changes, the question, and looking up a road.
 
 use crate::{OpenedMap, DESKS, FAR, LISTED, NONE, VANS};
 use std::sync::Arc;
@@ -46,7 +46,7 @@ impl State {
         }
     }
 
-    /// Places a free van: 7, 9, 10, 11, 15, or its stamp.
+    /// Places a free van: 7, 9, 10 or 20, 11, 15, or its stamp.
     pub fn add(&mut self, van: u32, from: u32, to: u32, offset: u32) -> Result<u32, u32> {
         let van = van_in_range(van)?;
         if self.vans[van].is_some() {
@@ -63,7 +63,7 @@ impl State {
         Ok(stamp)
     }
 
-    /// Changes a van's place, free or held: 7, 8, 10, 11, 15, or its stamp.
+    /// Changes a van's place, free or held: 7, 8, 10 or 20, 11, 15, or its stamp.
     pub fn move_van(&mut self, van: u32, from: u32, to: u32, offset: u32) -> Result<u32, u32> {
         let van = van_in_range(van)?;
         let before = self.vans[van].ok_or(8u32)?;
@@ -155,6 +155,11 @@ impl State {
             .collect())
     }
 
+    /// Tells of the road (from, to): 10, 20, or 0 if it is one.
+    pub fn road(&self, from: u32, to: u32) -> Result<u32, u32> {
+        self.look_up(from, to).map(|_| 0)
+    }
+
     /// The vertex that a van heads for.
     pub fn head(&self, van: &Van) -> usize {
         self.opened.map.roads[van.road].to as usize
@@ -208,9 +213,18 @@ impl State {
             .collect()
     }
 
-    /// The road (from, to) if it is one and the offset is at most its weight: 10, 11, or its number.
+    /// Looks up the road (from, to): 20 if it is none but (to, from) is, 10 if neither is, or its number.
+    fn look_up(&self, from: u32, to: u32) -> Result<usize, u32> {
+        match self.opened.find_road(from, to) {
+            Some(road) => Ok(road),
+            None if self.opened.find_road(to, from).is_some() => Err(20),
+            None => Err(10),
+        }
+    }
+
+    /// The road (from, to) if it is one and the offset is at most its weight: 10 or 20, 11, or its number.
     fn place(&self, from: u32, to: u32, offset: u32) -> Result<usize, u32> {
-        let road = self.opened.find_road(from, to).ok_or(10u32)?;
+        let road = self.look_up(from, to)?;
         if offset > self.opened.map.roads[road].weight {
             return Err(11);
         }

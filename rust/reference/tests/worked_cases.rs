@@ -82,9 +82,23 @@ fn the_offset_is_at_most_the_weight() {
 #[test]
 fn a_road_that_is_none() {
     let mut state = opened();
-    assert_eq!(state.add(0, 1, 4, 0), Err(10));
+    assert_eq!(state.add(0, 0, 2, 0), Err(10));
     assert_eq!(state.add(0, 5, 0, 0), Err(10));
     assert_eq!(state.add(0, 65_536, 65_537, 0), Err(10));
+    assert_eq!(state.road(0, 2), Err(10));
+    assert_eq!(state.road(2, 2), Err(10));
+    assert_eq!(state.road(4, 65_537), Err(10));
+}
+
+#[test]
+fn a_road_that_is_only_the_other_way() {
+    let mut state = opened();
+    assert_eq!(state.add(0, 1, 4, 0), Err(20));
+    assert_eq!(state.road(1, 4), Err(20));
+    assert_eq!(state.road(4, 1), Ok(0));
+    state.add(0, 4, 1, 6).unwrap();
+    assert_eq!(state.move_van(0, 1, 4, 7), Err(20));
+    assert_eq!(state.move_van(1, 1, 4, 0), Err(8));
 }
 
 #[test]

@@ -38,13 +38,18 @@ pub enum Call {
         k: u32,
         answer_words: usize,
     },
+    /// Looks up a road.
+    Road { from: u32, to: u32 },
 }
 
 impl Call {
-    /// Makes a change in the reference: its stamp or its refusal; nothing for an opening or a question.
+    /// Makes a change in the reference: its stamp or its refusal; nothing for any other call.
     pub fn change(self, state: &mut State) -> Option<Result<u32, u32>> {
         match self {
-            Call::Open { .. } | Call::OpenDamaged { .. } | Call::Question { .. } => None,
+            Call::Open { .. }
+            | Call::OpenDamaged { .. }
+            | Call::Question { .. }
+            | Call::Road { .. } => None,
             Call::Add {
                 van,
                 from,
@@ -91,6 +96,7 @@ impl fmt::Display for Call {
             } => {
                 write!(f, "question {vertex} {k} {answer_words}")
             }
+            Call::Road { from, to } => write!(f, "road {from} {to}"),
         }
     }
 }
@@ -133,6 +139,7 @@ impl FromStr for Call {
                 k,
                 answer_words: answer_words as usize,
             },
+            ("road", &[from, to]) => Call::Road { from, to },
             _ => return Err(bad()),
         })
     }
@@ -223,7 +230,7 @@ impl Habits {
         *dice.pick(&self.desks)
     }
 
-    /// A place as (from, to, offset).
+    /// A place as (from, to, offset): where it is wrong, between any two numbers, against a road, or past its weight.
     fn place(&self, dice: &mut Dice, state: &State) -> (u32, u32, u32) {
         let map = &state.opened.map;
         if self.roads.is_empty() || dice.chance(self.wrong) {
@@ -247,7 +254,10 @@ impl Habits {
             }
             false => offset,
         };
-        (road.from as u32, road.to as u32, offset)
+        match dice.chance(self.wrong) {
+            true => (road.to as u32, road.from as u32, offset),
+            false => (road.from as u32, road.to as u32, offset),
+        }
     }
 
     fn stamp(&self, dice: &mut Dice, state: &State, van: u32) -> u32 {
@@ -273,6 +283,15 @@ pub fn random_add(dice: &mut Dice, habits: &Habits, state: &State) -> Call {
         from,
         to,
         offset,
+    }
+}
+
+/// A lookup of a road, or of the other way.
+fn random_lookup(dice: &mut Dice, habits: &Habits, state: &State) -> Call {
+    let (from, to, _) = habits.place(dice, state);
+    match dice.chance(50) {
+        true => Call::Road { from, to },
+        false => Call::Road { from: to, to: from },
     }
 }
 
@@ -311,6 +330,7 @@ pub fn random_call(dice: &mut Dice, habits: &Habits, state: &State, map_bytes: u
                 by: dice.from_to(1, 255) as u8,
             }
         }
+        4..64 => return random_lookup(dice, habits, state),
         _ => {}
     }
     let (from, to, offset) = habits.place(dice, state);

@@ -5,12 +5,12 @@ use desk_ref::{calls, Call as Record};
 use reference::{Map, OpenedMap, State, FAR};
 use std::sync::Arc;
 
-/// The record of a call, if its numbers fit into the record's fields.
+/// The record of a call, if there is one and its numbers fit into the record's fields.
 fn record(call: Call) -> Option<Record> {
     let two = |number: u32| u16::try_from(number).ok();
     let one = |number: u32| u8::try_from(number).ok();
     Some(match call {
-        Call::Open { .. } | Call::OpenDamaged { .. } => return None,
+        Call::Open { .. } | Call::OpenDamaged { .. } | Call::Road { .. } => return None,
         Call::Add {
             van,
             from,

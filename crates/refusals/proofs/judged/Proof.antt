@@ -18,8 +18,6 @@ judged-spec =
     (search needs)
     (search needs)
     (search needs)
-    (search needs)
-    (search needs)
     (λ c κs. small-as _ _ (c .before .change3 .given .1) (c .before .before .before .before .pre))
     (search needs)
     (λ c κs. small-as _ _ (c .before .change4 .given .1) (c .before .before .before .before .pre))

@@ -1,0 +1,2 @@
+-- Laws that the function cites.
+pub mod Gate
