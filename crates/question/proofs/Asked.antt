@@ -19,7 +19,7 @@ use Rattle.parts.specs.Size.{rowVertices, sizeOf}
 use Rattle.rows.specs.Row.{rowOf, Arrives}
 use Rattle.fleet.specs.State.{State, active}
 use Rattle.image.specs.Records.{rowVertex}
-use Rattle.layout.specs.Layout.{partWord}
+use Rattle.layout.specs.Layout.{part·rows, partWord}
 use Rattle.part_words.specs.Part.{rowsIn}
 use Rattle.row_lists.specs.Rows.{belowAt, nearAt, showsOwn, isAsked, AskedRow, OwnRow}
 use Rattle.row_distances.specs.Distances.{Relaxed}
@@ -30,7 +30,7 @@ use Rattle.question.proofs.Exact.{exact-out, known-out}
 
 -- something is shown below the rows of r
 abbrev pub ShownBelow : Map → List ℕ → ℕ → ℕ → Type 0
-ShownBelow m mem p r = (i : ℕ) → i < sizeOf m p → rowVertex m p i ≡ r → belowAt mem (partWord mem p 2) i < FAR
+ShownBelow m mem p r = (i : ℕ) → i < sizeOf m p → rowVertex m p i ≡ r → belowAt mem (partWord mem p part·rows) i < FAR
 
 pub asked-is-row : {all : Bool} {mem : List ℕ} {first size : ℕ} {dx : List ℕ} (i : ℕ) → AskedRow all mem first size dx i → i < size
 asked-is-row i row = row .is-row
@@ -43,14 +43,14 @@ unfolding isAsked
 asked-shows {mem} {first} {size} {dx} i row = ltb-true (belowAt mem first i) FAR (both-true (leb FAR (nearAt mem first dx i)) _ (row .is-asked) .1)
 
 module _ {m : Map} {s : State} {mem : List ℕ} (g : Genuine m s mem) (p : ℕ) (hp : p < partCount m) where
-  asked-if : {all : Bool} {dx : List ℕ} (i : ℕ) → i < sizeOf m p → FAR ≤ nearAt mem (partWord mem p 2) dx i → (all ≡ true) ⊎ (belowAt mem (partWord mem p 2) i < FAR)
-      → AskedRow all mem (partWord mem p 2) (rowsIn mem p) dx i
+  asked-if : {all : Bool} {dx : List ℕ} (i : ℕ) → i < sizeOf m p → FAR ≤ nearAt mem (partWord mem p part·rows) dx i → (all ≡ true) ⊎ (belowAt mem (partWord mem p part·rows) i < FAR)
+      → AskedRow all mem (partWord mem p part·rows) (rowsIn mem p) dx i
   unfolding isAsked
   asked-if {all} i hi none (inl every) = record { is-row = omega (arith, hi, rows-read g p hp); is-asked = both-pass _ _ (le-leb FAR _ none) (left-true all _ every) }
   asked-if {all} i hi none (inr shown) = record { is-row = omega (arith, hi, rows-read g p hp); is-asked = both-pass _ _ (le-leb FAR _ none) (right-true all _ (lt-ltb _ FAR shown)) }
 
   -- where all are asked for
-  pub asked-every : {dx : List ℕ} (i : ℕ) → i < sizeOf m p → FAR ≤ nearAt mem (partWord mem p 2) dx i → AskedRow true mem (partWord mem p 2) (rowsIn mem p) dx i
+  pub asked-every : {dx : List ℕ} (i : ℕ) → i < sizeOf m p → FAR ≤ nearAt mem (partWord mem p part·rows) dx i → AskedRow true mem (partWord mem p part·rows) (rowsIn mem p) dx i
   asked-every i hi none = asked-if i hi none (inl refl)
 
   module _ {dx dx′ : List ℕ} (x : ℕ) (hx : x < m .vertices) (known : (v : ℕ) → v < m .vertices → word dx v < FAR → word dx v ≤ dist m v x) (outside : holds m p x ≡ false)
@@ -73,7 +73,7 @@ module _ {m : Map} {s : State} {mem : List ℕ} (g : Genuine m s mem) (p : ℕ) 
       unfolding showsOwn
       leaf-exact r hr act =
           let (i, hi, same) = place-read g p hp r hr in
-          let own : (j : ℕ) → j < sizeOf m p → rowVertex m p j ≡ r → showsOwn mem (partWord mem p 2) j ≡ true =
+          let own : (j : ℕ) → j < sizeOf m p → rowVertex m p j ≡ r → showsOwn mem (partWord mem p part·rows) j ≡ true =
           λ j hj is. eq-eqb _ 0 (own-shown g p hp j hj (ap (active m s) is ∙ act)) in
           exact-out g p hp relaxed own-is-row x hx known outside gates r hr
           (λ j hj is none. record { is-row = omega (arith, hj, rows-read g p hp); is-own = own j hj is })

@@ -21,7 +21,7 @@ use Rattle.places.specs.Place.{countsIn, vertexAddress}
 use Rattle.best_list.specs.Best.{entries, limitOf, offeredAll, InOrder}
 use Rattle.van_offers.specs.Offers.{stampIn, rowOffers}
 use Rattle.far_sums.specs.Least.{Least}
-use Rattle.layout.specs.Layout.{partWord}
+use Rattle.layout.specs.Layout.{part·parent, part·rows, part·child, partWord}
 use Rattle.part_words.specs.Part.{rowsIn}
 use Rattle.row_lists.specs.Rows.{Fits, ownRows}
 use Rattle.row_distances.specs.Distances.{Alone, Relaxed, outOf}
@@ -42,11 +42,11 @@ module _ (mem : List ℕ) (leaf k : ℕ) (dx′ : List ℕ) (list list′ : Coun
   abbrev Offered : Counts → ℕ → List ℕ → Type 0
   Offered counts first rows = list′ counts ≡ offeredAll k (list counts) (rowOffers mem counts first dx′ rows)
 
-  offered-named : {p shown first : ℕ} {counts : Counts} {rows : List ℕ} → p ≡ leaf → shown ≡ partWord mem p 2 → first ≡ shown → counts ≡ countsIn mem → rows ≡ ownRows mem p → Offered counts first rows
+  offered-named : {p shown first : ℕ} {counts : Counts} {rows : List ℕ} → p ≡ leaf → shown ≡ partWord mem p part·rows → first ≡ shown → counts ≡ countsIn mem → rows ≡ ownRows mem p → Offered counts first rows
       → list′ (countsIn mem) ≡ offeredAll k (list (countsIn mem)) (offersOf mem leaf dx′)
   offered-named {first = first} {counts} {rows} isPart isShown isFirst isCounts isRows offered =
-      subst (λ (c : Counts). Offered c (partWord mem leaf 2) (ownRows mem leaf)) isCounts
-      (subst (λ (f : ℕ). Offered counts f (ownRows mem leaf)) (isFirst ∙ isShown ∙ ap (λ (q : ℕ). partWord mem q 2) isPart)
+      subst (λ (c : Counts). Offered c (partWord mem leaf part·rows) (ownRows mem leaf)) isCounts
+      (subst (λ (f : ℕ). Offered counts f (ownRows mem leaf)) (isFirst ∙ isShown ∙ ap (λ (q : ℕ). partWord mem q part·rows) isPart)
       (subst (Offered counts first) (isRows ∙ ap (ownRows mem) isPart) offered))
 
 -- the entries of two arrays, with the stamps that a memory shows
@@ -55,7 +55,7 @@ listBy mem fars vans len counts = entries (stampIn mem counts) fars vans len
 
 -- a waiting leaf
 pub leaf-looked : (mem : List ℕ) (leaf : ℕ) (dx fars vans : List ℕ) (len k : ℕ) {p : ℕ} {dx′ fars′ vans′ rows : List ℕ} {len′ shown first : ℕ} {counts : Counts} → p ≡ leaf
-    → (Fits mem p → LeafRelaxed mem p dx dx′ × (rows ≡ ownRows mem p)) → shown ≡ partWord mem p 2 → first ≡ shown → counts ≡ countsIn mem → len′ ≤ k → InOrder fars′ vans′ len′
+    → (Fits mem p → LeafRelaxed mem p dx dx′ × (rows ≡ ownRows mem p)) → shown ≡ partWord mem p part·rows → first ≡ shown → counts ≡ countsIn mem → len′ ≤ k → InOrder fars′ vans′ len′
     → Offered mem leaf k dx′ (listBy mem fars vans len) (listBy mem fars′ vans′ len′) counts first rows → LeafTaken mem leaf dx fars vans len k dx′ fars′ vans′ len′
 leaf-looked mem leaf dx fars vans len k {dx′ = dx′} {fars′} {vans′} {len′ = len′} isPart relaxed isShown isFirst isCounts few ordered offered =
     record {
@@ -75,7 +75,7 @@ nothing stampOf fars vans (suc n) e = absurd (omega arith)
 
 -- the leaf of the vertex asked at
 pub own-looked : (mem : List ℕ) (leaf place : ℕ) (dx fars vans : List ℕ) (k : ℕ) {p at : ℕ} {dx′ fars′ vans′ rows : List ℕ} {len′ shown first : ℕ} {counts : Counts} → p ≡ leaf → at ≡ place
-    → (Fits mem p → at < rowsIn mem p → (Alone mem (partWord mem p 2) (rowsIn mem p) dx at → Relaxed mem p true dx dx′) × (rows ≡ ownRows mem p)) → shown ≡ partWord mem p 2
+    → (Fits mem p → at < rowsIn mem p → (Alone mem (partWord mem p part·rows) (rowsIn mem p) dx at → Relaxed mem p true dx dx′) × (rows ≡ ownRows mem p)) → shown ≡ partWord mem p part·rows
     → first ≡ shown → counts ≡ countsIn mem → len′ ≤ k → InOrder fars′ vans′ len′ → Offered mem leaf k dx′ (listBy mem fars vans 0) (listBy mem fars′ vans′ len′) counts first rows
     → OwnTaken mem leaf place dx k dx′ fars′ vans′ len′
 own-looked mem leaf place dx fars vans k {p} {at} {dx′} {fars′} {vans′} {len′ = len′} isPart isAt relaxed isShown isFirst isCounts few ordered offered =
@@ -84,8 +84,8 @@ own-looked mem leaf place dx fars vans k {p} {at} {dx′} {fars′} {vans′} {l
       ordered = ordered;
       looks = λ fits row.
           let (closer, isRows) = relaxed (subst⁻¹ (Fits mem) isPart fits) (omega (arith, row, isAt, ap (rowsIn mem) isPart)) in (
-            subst (λ (i : ℕ). Alone mem (partWord mem leaf 2) (rowsIn mem leaf) dx i → Relaxed mem leaf true dx dx′) isAt
-                (subst (λ (q : ℕ). Alone mem (partWord mem q 2) (rowsIn mem q) dx at → Relaxed mem q true dx dx′) isPart closer),
+            subst (λ (i : ℕ). Alone mem (partWord mem leaf part·rows) (rowsIn mem leaf) dx i → Relaxed mem leaf true dx dx′) isAt
+                (subst (λ (q : ℕ). Alone mem (partWord mem q part·rows) (rowsIn mem q) dx at → Relaxed mem q true dx dx′) isPart closer),
             offered-named mem leaf k dx′ (listBy mem fars vans 0) (listBy mem fars′ vans′ len′) isPart isShown isFirst isCounts isRows offered
                 ∙ ap (λ (l : List Listed). offeredAll k l (offersOf mem leaf dx′)) (nothing (stampIn mem (countsIn mem)) fars vans 0 refl),
           );
@@ -94,12 +94,12 @@ own-looked mem leaf place dx fars vans k {p} {at} {dx′} {fars′} {vans′} {l
 pub bound-root : (mem : List ℕ) (part : ℕ) (dx : List ℕ) → part ≡ 0 → BoundOutside mem part dx FAR
 bound-root mem part dx root = record { root = λ e. refl; other = λ real. absurd (real root) }
 
-pub bound-other : (mem : List ℕ) (part : ℕ) (dx : List ℕ) {at shown p out : ℕ} → part ≢ 0 → at ≡ part → shown ≡ partWord mem at 0 → p ≡ shown
-    → Least (outOf mem (partWord mem p 2) dx part) (rowsIn mem p) out → BoundOutside mem part dx out
+pub bound-other : (mem : List ℕ) (part : ℕ) (dx : List ℕ) {at shown p out : ℕ} → part ≢ 0 → at ≡ part → shown ≡ partWord mem at part·parent → p ≡ shown
+    → Least (outOf mem (partWord mem p part·rows) dx part) (rowsIn mem p) out → BoundOutside mem part dx out
 bound-other mem part dx {out = out} real isAt isShown isPart least =
     record {
       root = λ e. absurd (real e);
-      other = λ e. subst (λ (q : ℕ). Least (outOf mem (partWord mem q 2) dx part) (rowsIn mem q) out) (isPart ∙ isShown ∙ ap (λ (q : ℕ). partWord mem q 0) isAt) least;
+      other = λ e. subst (λ (q : ℕ). Least (outOf mem (partWord mem q part·rows) dx part) (rowsIn mem q) out) (isPart ∙ isShown ∙ ap (λ (q : ℕ). partWord mem q part·parent) isAt) least;
     }
 
 pub given-up : (waits : List ℕ) (at n : ℕ) {part last : ℕ} {waits′ : List ℕ} → part ≡ word waits at → last ≡ word waits (n - 1) → waits′ ≡ set waits at last
@@ -107,9 +107,9 @@ pub given-up : (waits : List ℕ) (at n : ℕ) {part last : ℕ} {waits′ : Lis
 given-up waits at n isPart isLast isWaits = (isPart, isWaits ∙ ap (set waits at) isLast)
 
 -- Climbing.
-module _ (mem dx keys waits : List ℕ) (st : Search) (total : farCount keys + st .waiting ≤ 512) {at above : ℕ} (isAt : at ≡ st .part) (isAbove : above ≡ partWord mem at 0) where
-  above-is : above ≡ partWord mem (st .part) 0
-  above-is = isAbove ∙ ap (λ (q : ℕ). partWord mem q 0) isAt
+module _ (mem dx keys waits : List ℕ) (st : Search) (total : farCount keys + st .waiting ≤ 512) {at above : ℕ} (isAt : at ≡ st .part) (isAbove : above ≡ partWord mem at part·parent) where
+  above-is : above ≡ partWord mem (st .part) part·parent
+  above-is = isAbove ∙ ap (λ (q : ℕ). partWord mem q part·parent) isAt
 
   pub climb-stays : st .part ≤ above
       → Climbs mem dx keys waits st dx keys waits (record { len = st .len; part = st .part; out = st .out; waiting = st .waiting; from = st .waiting; ended = true })
@@ -151,12 +151,12 @@ module _ (mem dx keys waits : List ℕ) (st : Search) (total : farCount keys + s
 -- Taking a waiting part, and a turn.
 module _ (mem : List ℕ) (k : ℕ) (dx keys waits fars vans : List ℕ) (st : Search) (so : Stands k keys fars vans st) where
   module _ (at : ℕ) (h : at < st .waiting) {q wide child : ℕ} {waits₁ : List ℕ} (isPart : q ≡ word waits at) (isWaits : waits₁ ≡ set waits at (word waits (st .waiting - 1)))
-      (isWide : wide ≡ q) (isChild : child ≡ partWord mem wide 4) where
+      (isWide : wide ≡ q) (isChild : child ≡ partWord mem wide part·child) where
     fits : length waits ≡ 512 → st .waiting ≤ length waits
     fits long = omega (arith, so .total)
 
-    child-is : child ≡ partWord mem (word waits at) 4
-    child-is = isChild ∙ ap (λ (p : ℕ). partWord mem p 4) (isWide ∙ isPart)
+    child-is : child ≡ partWord mem (word waits at) part·child
+    child-is = isChild ∙ ap (λ (p : ℕ). partWord mem p part·child) (isWide ∙ isPart)
 
     pub leaf-goes : {dx′ fars′ vans′ : List ℕ} {len′ : ℕ} → child ≡ 0 → LeafTaken mem q dx fars vans (st .len) k dx′ fars′ vans′ len′
         → Goes mem k dx keys waits fars vans st dx′ keys waits₁ fars′ vans′
@@ -306,7 +306,7 @@ module _ (mem : List ℕ) (x k : ℕ) (dx keys waits : List ℕ) (some : 1 ≤ k
       place-is : place ≡ word mem (vertexAddress (countsIn mem) x + 1)
       place-is = isPlace ∙ ap (λ (c : Counts). word mem (vertexAddress c x + 1)) isCounts
 
-      looks : (Alone mem (partWord mem leaf 2) (rowsIn mem leaf) dx₁ place → Relaxed mem leaf true dx₁ dx′) × (listOf mem fars vans len ≡ offeredAll k [] (offersOf mem leaf dx′))
+      looks : (Alone mem (partWord mem leaf part·rows) (rowsIn mem leaf) dx₁ place → Relaxed mem leaf true dx₁ dx′) × (listOf mem fars vans len ≡ offeredAll k [] (offersOf mem leaf dx′))
       looks = taken .looks (part-fits g leaf (omega (arith, leaf-is, sound-tree m (g .sound) .leaf-part x hx))) (own-row g x hx k some dx (fresh .no-distance) room start-is leaf leaf-is place place-is)
 
 -- arrays as they are made

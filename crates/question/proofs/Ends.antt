@@ -35,7 +35,7 @@ use Rattle.best_list.specs.Best.{limitOf, offeredAll}
 use Rattle.best_list.proofs.Offers.{limit-below}
 use Rattle.places.specs.Place.{countsIn, vertexAddress}
 use Rattle.far_sums.specs.Least.{Least}
-use Rattle.layout.specs.Layout.{partWord}
+use Rattle.layout.specs.Layout.{part·rows, partWord}
 use Rattle.part_words.specs.Part.{rowsIn}
 use Rattle.row_distances.specs.Distances.{Alone, Relaxed}
 use Rattle.cells.specs.Lowered.{lowered}
@@ -226,7 +226,7 @@ module _ {m : Map} {s : State} {mem : List ℕ} (g : Genuine m s mem) (x : ℕ) 
       pub own-row : place < rowsIn mem leaf
       own-row = omega (arith, at-place .0, rows-read g leaf hl)
 
-      pub alone : Alone mem (partWord mem leaf 2) (rowsIn mem leaf) dx place
+      pub alone : Alone mem (partWord mem leaf part·rows) (rowsIn mem leaf) dx place
       alone =
           record {
             here = ap (word dx) (owner-read g leaf hl place (at-place .0) ∙ at-place .1) ∙ start-at;

@@ -29,7 +29,7 @@ use Rattle.rows.specs.Row.{rowOf, Arrives}
 use Rattle.rows.proofs.Bounds.{row-bound}
 use Rattle.fleet.specs.State.{State, active}
 use Rattle.image.specs.Records.{rowVertex}
-use Rattle.layout.specs.Layout.{partWord}
+use Rattle.layout.specs.Layout.{part·rows, part·table, partWord}
 use Rattle.part_words.specs.Part.{rowsIn}
 use Rattle.row_lists.specs.Rows.{ownerAt, nearAt}
 use Rattle.row_distances.specs.Distances.{Closer}
@@ -37,7 +37,7 @@ use Rattle.van_offers.specs.Genuine.{Genuine}
 use Rattle.question.proofs.Shown.{rows-read, owner-read, entry-read, row-in, row-below, place-read, one-row, arrives-further}
 
 module _ {m : Map} {s : State} {mem : List ℕ} (g : Genuine m s mem) (p : ℕ) (hp : p < partCount m) {Asked : ℕ → Type 0} {dx dx′ : List ℕ}
-    (closer : Closer mem (partWord mem p 2) (partWord mem p 3) (rowsIn mem p) dx Asked dx′) (of-part : (i : ℕ) → Asked i → i < rowsIn mem p) (x : ℕ) (hx : x < m .vertices) where
+    (closer : Closer mem (partWord mem p part·rows) (partWord mem p part·table) (rowsIn mem p) dx Asked dx′) (of-part : (i : ℕ) → Asked i → i < rowsIn mem p) (x : ℕ) (hx : x < m .vertices) where
   net : Net m
   net = sound-net m (g .sound)
 
@@ -68,7 +68,7 @@ module _ {m : Map} {s : State} {mem : List ℕ} (g : Genuine m s mem) (p : ℕ) 
       old : (u : ℕ) → bound u ≤ word dx u
       old u = elim (decLt u (m .vertices)) [ yes hu ↦ omega (arith, bound-is u hu, honest u hu) | no out ↦ omega (arith, bound-none u (omega (arith, out))) ]
 
-      ways : (i j : ℕ) → i < rowsIn mem p → j < rowsIn mem p → bound (ownerAt mem (partWord mem p 2) i) ≤ word mem (partWord mem p 3 + rowsIn mem p * i + j) + nearAt mem (partWord mem p 2) dx j
+      ways : (i j : ℕ) → i < rowsIn mem p → j < rowsIn mem p → bound (ownerAt mem (partWord mem p part·rows) i) ≤ word mem (partWord mem p part·table + rowsIn mem p * i + j) + nearAt mem (partWord mem p part·rows) dx j
       ways i j hi hj =
           let hi′ : i < sizeOf m p = row-size hi in
           let hj′ : j < sizeOf m p = row-size hj in
@@ -91,7 +91,7 @@ module _ {m : Map} {s : State} {mem : List ℕ} (g : Genuine m s mem) (p : ℕ) 
 
   -- r is asked for where it has no distance
   abbrev pub AskedFor : ℕ → Type 0
-  AskedFor r = (i : ℕ) → i < sizeOf m p → rowVertex m p i ≡ r → FAR ≤ nearAt mem (partWord mem p 2) dx i → Asked i
+  AskedFor r = (i : ℕ) → i < sizeOf m p → rowVertex m p i ≡ r → FAR ≤ nearAt mem (partWord mem p part·rows) dx i → Asked i
 
   -- a row that is asked for is its vertex's only row
   asked-one : (i : ℕ) → Asked i → AskedFor (rowVertex m p i)
@@ -107,10 +107,10 @@ module _ {m : Map} {s : State} {mem : List ℕ} (g : Genuine m s mem) (p : ℕ) 
         place : (i : ℕ) × (i < sizeOf m p) × (rowVertex m p i ≡ r)
         place = place-read g p hp r hr
 
-        owner : ownerAt mem (partWord mem p 2) (place .0) ≡ r
+        owner : ownerAt mem (partWord mem p part·rows) (place .0) ≡ r
         owner = owner-read g p hp (place .0) (place .1) ∙ place .2
 
-        at : word dx′ (ownerAt mem (partWord mem p 2) (place .0)) ≡ word dx′ r
+        at : word dx′ (ownerAt mem (partWord mem p part·rows) (place .0)) ≡ word dx′ r
         at = ap (word dx′) owner
 
         decided : Asked (place .0) → Dec (dist m r x ≡ FAR) → word dx′ r ≤ dist m r x
@@ -161,7 +161,7 @@ module _ {m : Map} {s : State} {mem : List ℕ} (g : Genuine m s mem) (p : ℕ) 
       pub known-out : ((i : ℕ) → Asked i → (u : ℕ) × Arrives m (active m s) p (rowVertex m p i) u) → (v : ℕ) → v < m .vertices → word dx′ v < FAR → word dx′ v ≤ dist m v x
       known-out arrives = still-known (λ i row. exact-out (rowVertex m p i) (row-in g p hp i (row-size (of-part i row))) (asked-one i row) (arrives i row))
 
-    module _ (every : (i : ℕ) → i < sizeOf m p → FAR ≤ nearAt mem (partWord mem p 2) dx i → Asked i) where
+    module _ (every : (i : ℕ) → i < sizeOf m p → FAR ≤ nearAt mem (partWord mem p part·rows) dx i → Asked i) where
       wanted : (r : ℕ) → AskedFor r
       wanted r i hi same none = every i hi none
 

@@ -32,7 +32,7 @@ use Rattle.places.specs.Place.{countsIn, vertexAddress}
 use Rattle.best_list.specs.Best.{offeredAll}
 use Rattle.best_list.proofs.Offers.{bestOf, offered-more}
 use Rattle.van_offers.specs.Offers.{vanOffers, rowOwner, vertexOffers, rowOffers}
-use Rattle.layout.specs.Layout.{partWord}
+use Rattle.layout.specs.Layout.{part·rows, partWord}
 use Rattle.part_words.specs.Part.{rowsIn}
 use Rattle.row_lists.specs.Rows.{showsOwn}
 use Rattle.van_offers.specs.Genuine.{Genuine}
@@ -63,7 +63,7 @@ module _ {m : Map} {s : State} {mem : List ℕ} (g : Genuine m s mem) (x : ℕ) 
   module _ (q : ℕ) (hq : q < partCount m) (leaf : isLeaf m q ≡ true) (dx : List ℕ)
       (exact : (r : ℕ) → List·Memᴰ r (rowVertices m q) → active m s r ≡ true → word dx r ≡ dist m r x) where
     abbrev first : ℕ
-    first = partWord mem q 2
+    first = partWord mem q part·rows
 
     abbrev offersFrom : ℕ → ℕ → List Listed
     offersFrom n i = rowOffers mem (countsIn mem) first dx (countFrom i n)

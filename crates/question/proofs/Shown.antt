@@ -40,7 +40,7 @@ use Rattle.image.proofs.Length.{image-length}
 use Rattle.image.proofs.Words.{row-word}
 use Rattle.image.proofs.Records.{head-word, part-word, vertex-word, table-word, shown-word, vertices-start, roads-start, vans-start, rows-start, rows-end}
 use Rattle.places.specs.Place.{countsIn, vertexAddress, vanAddress}
-use Rattle.layout.specs.Layout.{partWord}
+use Rattle.layout.specs.Layout.{part·words, part·parent, part·size, part·rows, part·table, part·child, row·words, row·distance, row·below, partWord}
 use Rattle.part_words.specs.Part.{rowsIn}
 use Rattle.row_lists.specs.Rows.{ownerAt, childAt, belowAt, showsOwn, Fits}
 use Rattle.van_offers.specs.Genuine.{Genuine}
@@ -70,26 +70,26 @@ module _ {m : Map} {s : State} {mem : List ℕ} (g : Genuine m s mem) where
   -- The parts.
 
   module _ (p : ℕ) (hp : p < partCount m) where
-    part-read : (w : ℕ) → w < 8 → partWord mem p w ≡ word (partRecord m p) w
+    part-read : (w : ℕ) → w < part·words → partWord mem p w ≡ word (partRecord m p) w
     part-read w hw = at-word g (64 + 8 * p + w) ∙ part-word m s (slots g) p w hp hw
 
-    pub parent-read : partWord mem p 0 ≡ parentOf m p
+    pub parent-read : partWord mem p part·parent ≡ parentOf m p
     unfolding partRecord
     parent-read = part-read 0 (omega arith)
 
-    size-read : partWord mem p 1 ≡ sizeOf m p
+    size-read : partWord mem p part·size ≡ sizeOf m p
     unfolding partRecord
     size-read = part-read 1 (omega arith)
 
-    pub first-read : partWord mem p 2 ≡ firstRowOf m p
+    pub first-read : partWord mem p part·rows ≡ firstRowOf m p
     unfolding partRecord
     first-read = part-read 2 (omega arith)
 
-    pub table-read : partWord mem p 3 ≡ tableOf m p
+    pub table-read : partWord mem p part·table ≡ tableOf m p
     unfolding partRecord
     table-read = part-read 3 (omega arith)
 
-    pub child-read : partWord mem p 4 ≡ firstOr 0 (children m p)
+    pub child-read : partWord mem p part·child ≡ firstOr 0 (children m p)
     unfolding partRecord
     child-read = part-read 4 (omega arith)
 
@@ -106,7 +106,7 @@ module _ {m : Map} {s : State} {mem : List ℕ} (g : Genuine m s mem) where
     row-below i hi = row-vertex m p (rowVertex m p i) (row-in i hi)
 
     shown : (i w : ℕ) → i < sizeOf m p → w < 4
-        → word mem (partWord mem p 2 + 4 * i + w)
+        → word mem (partWord mem p part·rows + row·words * i + w)
         ≡ word (rowRecord (rowOf m (active m s) p (rowVertex m p i)) (rowVertex m p i) (partBelow m p (rowVertex m p i)) (rowBelow m p (rowVertex m p i))) w
     shown i w hi hw =
         ap (λ (k : ℕ). word mem (k + 4 * i + w)) first-read ∙ at-word g (firstRowOf m p + 4 * i + w) ∙ shown-word m s (slots g) p i w hp hi hw
@@ -114,17 +114,17 @@ module _ {m : Map} {s : State} {mem : List ℕ} (g : Genuine m s mem) where
     small : (i : ℕ) → i < sizeOf m p → rowVertex m p i < 65536
     small i hi = omega (arith, row-below i hi, g .sound .vertices)
 
-    pub owner-read : (i : ℕ) → i < sizeOf m p → ownerAt mem (partWord mem p 2) i ≡ rowVertex m p i
+    pub owner-read : (i : ℕ) → i < sizeOf m p → ownerAt mem (partWord mem p part·rows) i ≡ rowVertex m p i
     owner-read i hi =
         ap (λ (k : ℕ). k % 65536) (shown i 2 hi (omega arith))
         ∙ add-mul-mod-self-left (rowVertex m p i) 65536 (partBelow m p (rowVertex m p i))
         ∙ mod-eq-of-lt (small i hi)
 
-    pub entry-read : (i j : ℕ) → i < sizeOf m p → j < sizeOf m p → word mem (partWord mem p 3 + rowsIn mem p * i + j) ≡ dist m (rowVertex m p i) (rowVertex m p j)
+    pub entry-read : (i j : ℕ) → i < sizeOf m p → j < sizeOf m p → word mem (partWord mem p part·table + rowsIn mem p * i + j) ≡ dist m (rowVertex m p i) (rowVertex m p j)
     entry-read i j hi hj =
         ap (word mem) at ∙ at-word g (tableOf m p + (sizeOf m p * i + j)) ∙ table-word m s (slots g) p i j hp hi hj
       where
-        at : partWord mem p 3 + rowsIn mem p * i + j ≡ tableOf m p + (sizeOf m p * i + j)
+        at : partWord mem p part·table + rowsIn mem p * i + j ≡ tableOf m p + (sizeOf m p * i + j)
         at = omega (arith, table-read, ap (λ (k : ℕ). k * i) rows-read)
 
     -- a place for each row's vertex
@@ -138,7 +138,7 @@ module _ {m : Map} {s : State} {mem : List ℕ} (g : Genuine m s mem) where
       border-in : (i : ℕ) → i < sizeOf m p → List·Memᴰ (rowVertex m p i) (borders m p)
       border-in i hi = subst (List·Memᴰ (rowVertex m p i)) (rows-inner m p inner) (row-in i hi)
 
-      pub child-at-read : (i : ℕ) → i < sizeOf m p → childAt mem (partWord mem p 2) i ≡ childOf m p (rowVertex m p i)
+      pub child-at-read : (i : ℕ) → i < sizeOf m p → childAt mem (partWord mem p part·rows) i ≡ childOf m p (rowVertex m p i)
       unfolding partBelow
       child-at-read i hi =
           ap (λ (k : ℕ). k / 65536) (shown i 2 hi (omega arith))
@@ -152,12 +152,12 @@ module _ {m : Map} {s : State} {mem : List ℕ} (g : Genuine m s mem) where
       child-of-border b h =
           let found = border-child m (sound-net m (g .sound)) (sound-tree m (g .sound)) p b h in (found .0, boundary-inside m (childOf m p b) b (found .1))
 
-      pub below-read : (i : ℕ) → i < sizeOf m p → belowAt mem (partWord mem p 2) i ≡ rowOf m (active m s) (childOf m p (rowVertex m p i)) (rowVertex m p i) .distance
+      pub below-read : (i : ℕ) → i < sizeOf m p → belowAt mem (partWord mem p part·rows) i ≡ rowOf m (active m s) (childOf m p (rowVertex m p i)) (rowVertex m p i) .distance
       unfolding rowBelow
       below-read i hi =
           let c : ℕ = childOf m p (rowVertex m p i) in
           let child = child-of-border (rowVertex m p i) (border-in i hi) in
-          let below : word mem (partWord mem p 2 + 4 * i + 3) ≡ rowAt m c (rowVertex m p i) =
+          let below : word mem (partWord mem p part·rows + row·words * i + row·below) ≡ rowAt m c (rowVertex m p i) =
           shown i 3 hi (omega arith) ∙ ap (λ (b : Bool). cond b (itselfAt m (rowVertex m p i)) (rowAt m c (rowVertex m p i))) inner in
           ap (λ (k : ℕ). word mem (k + 1)) below
           ∙ at-word g (rowAt m c (rowVertex m p i) + 1)
@@ -191,7 +191,7 @@ module _ {m : Map} {s : State} {mem : List ℕ} (g : Genuine m s mem) where
   -- What a row shows.
 
   -- below a row of a part with children: an active vertex of the part arrives at the row's vertex
-  pub shown-arrives : (p : ℕ) (hp : p < partCount m) → isLeaf m p ≡ false → (i : ℕ) → i < sizeOf m p → belowAt mem (partWord mem p 2) i < FAR
+  pub shown-arrives : (p : ℕ) (hp : p < partCount m) → isLeaf m p ≡ false → (i : ℕ) → i < sizeOf m p → belowAt mem (partWord mem p part·rows) i < FAR
       → (u : ℕ) × Arrives m (active m s) p (rowVertex m p i) u
   shown-arrives p hp inner i hi near =
       let r : ℕ = rowVertex m p i in
@@ -208,14 +208,14 @@ module _ {m : Map} {s : State} {mem : List ℕ} (g : Genuine m s mem) where
 
   -- a row that shows its own vertex shows an active one, and the row of an active vertex shows that
   module _ (p : ℕ) (hp : p < partCount m) (i : ℕ) (hi : i < sizeOf m p) where
-    distance-read : word mem (partWord mem p 2 + 4 * i + 1) ≡ rowOf m (active m s) p (rowVertex m p i) .distance
+    distance-read : word mem (partWord mem p part·rows + row·words * i + row·distance) ≡ rowOf m (active m s) p (rowVertex m p i) .distance
     distance-read = shown p hp i 1 hi (omega arith)
 
-    pub own-arrives : showsOwn mem (partWord mem p 2) i ≡ true → (u : ℕ) × Arrives m (active m s) p (rowVertex m p i) u
+    pub own-arrives : showsOwn mem (partWord mem p part·rows) i ≡ true → (u : ℕ) × Arrives m (active m s) p (rowVertex m p i) u
     unfolding showsOwn
-    own-arrives own = row-arrives m (active m s) p (rowVertex m p i) (omega (arith, distance-read, eqb-true (word mem (partWord mem p 2 + 4 * i + 1)) 0 own))
+    own-arrives own = row-arrives m (active m s) p (rowVertex m p i) (omega (arith, distance-read, eqb-true (word mem (partWord mem p part·rows + row·words * i + row·distance)) 0 own))
 
-    pub own-shown : active m s (rowVertex m p i) ≡ true → word mem (partWord mem p 2 + 4 * i + 1) ≡ 0
+    pub own-shown : active m s (rowVertex m p i) ≡ true → word mem (partWord mem p part·rows + row·words * i + row·distance) ≡ 0
     own-shown act =
         let hv = row-below p hp i hi in
         let self = dist-self m (sound-net m (g .sound)) (rowVertex m p i) hv in

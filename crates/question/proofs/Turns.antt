@@ -30,7 +30,7 @@ use Rattle.fleet.specs.State.{State, active}
 use Rattle.fleet.specs.Question.{Listed, comingFrom, sorted}
 use Rattle.image.specs.Records.{rowVertex}
 use Rattle.far_sums.specs.Least.{Least}
-use Rattle.layout.specs.Layout.{partWord}
+use Rattle.layout.specs.Layout.{part·rows, part·table, partWord}
 use Rattle.part_words.specs.Part.{rowsIn}
 use Rattle.row_lists.specs.Rows.{ownerAt, childAt, belowAt, nearAt}
 use Rattle.part_keys.specs.Keys.{keyOf, Spread}
@@ -189,19 +189,19 @@ module _ {m : Map} {s : State} {mem : List ℕ} (g : Genuine m s mem) (x : ℕ) 
           let border = boundary-border m net tree p c b child (gate .is-boundary) in
           let (i, hi, same) = place-read g p hp b (subst⁻¹ (List·Memᴰ b) (rows-inner m p inner) border) in
           let hb : b < m .vertices = holds-says m c b (boundary-inside m c b (gate .is-boundary)) .0 in
-          let in-child : childAt mem (partWord mem p 2) i ≡ c = child-at-read g p hp inner i hi ∙ ap (childOf m p) same ∙ child-found m net tree p c b hb child (boundary-inside m c b (gate .is-boundary)) in
-          let least : Least (outOf mem (partWord mem p 2) dx c) (rowsIn mem p) out = subst (λ (k : ℕ). Least (outOf mem (partWord mem k 2) dx c) (rowsIn mem k) out) (parent-read g c hc) (bound .other real) in
+          let in-child : childAt mem (partWord mem p part·rows) i ≡ c = child-at-read g p hp inner i hi ∙ ap (childOf m p) same ∙ child-found m net tree p c b hb child (boundary-inside m c b (gate .is-boundary)) in
+          let least : Least (outOf mem (partWord mem p part·rows) dx c) (rowsIn mem p) out = subst (λ (k : ℕ). Least (outOf mem (partWord mem k part·rows) dx c) (rowsIn mem k) out) (parent-read g c hc) (bound .other real) in
           omega (
             arith,
             least .below i (omega (arith, hi, rows-read g p hp)),
-            out-here mem (partWord mem p 2) dx c i in-child,
+            out-here mem (partWord mem p part·rows) dx c i in-child,
             ap (word dx) (owner-read g p hp i hi ∙ same),
             gates b (gate .is-boundary),
             gate .bounds,
           )
 
   -- what gets a distance lies in the part whose rows are asked for
-  pub now-inside : (p : ℕ) → p < partCount m → {Asked : ℕ → Type 0} {dx dx′ : List ℕ} → Closer mem (partWord mem p 2) (partWord mem p 3) (rowsIn mem p) dx Asked dx′ → ((i : ℕ) → Asked i → i < rowsIn mem p)
+  pub now-inside : (p : ℕ) → p < partCount m → {Asked : ℕ → Type 0} {dx dx′ : List ℕ} → Closer mem (partWord mem p part·rows) (partWord mem p part·table) (rowsIn mem p) dx Asked dx′ → ((i : ℕ) → Asked i → i < rowsIn mem p)
       → (part : ℕ) → ((v : ℕ) → v < m .vertices → word dx v < FAR → holds m part v ≡ true) → ((v : ℕ) → holds m p v ≡ true → holds m part v ≡ true)
       → (v : ℕ) → v < m .vertices → word dx′ v < FAR → holds m part v ≡ true
   now-inside p hp closer of-part part old inside v hv some =
@@ -214,14 +214,14 @@ module _ {m : Map} {s : State} {mem : List ℕ} (g : Genuine m s mem) (x : ℕ) 
 
   -- A part p with children was opened up, and its rows have their distances. The child that holds x, if any, has a key already, and its rows may give none.
   module _ (p : ℕ) (hp : p < partCount m) (inner : isLeaf m p ≡ false) (dx keys waits : List ℕ) (n : ℕ) {keys′ waits′ : List ℕ} {n′ : ℕ} {Given : ℕ → Type 0}
-      (spread : Spread mem (partWord mem p 2) dx Given keys waits n keys′ waits′ n′) (of-part : (i : ℕ) → Given i → i < rowsIn mem p)
+      (spread : Spread mem (partWord mem p part·rows) dx Given keys waits n keys′ waits′ n′) (of-part : (i : ℕ) → Given i → i < rowsIn mem p)
       (gives : (i : ℕ) → i < sizeOf m p → holds m (childOf m p (rowVertex m p i)) x ≡ false → Given i)
-      (exact : (r : ℕ) → List·Memᴰ r (rowVertices m p) → ((i : ℕ) → i < sizeOf m p → rowVertex m p i ≡ r → belowAt mem (partWord mem p 2) i < FAR) → word dx r ≤ dist m r x)
+      (exact : (r : ℕ) → List·Memᴰ r (rowVertices m p) → ((i : ℕ) → i < sizeOf m p → rowVertex m p i ≡ r → belowAt mem (partWord mem p part·rows) i < FAR) → word dx r ≤ dist m r x)
       (own : (c : ℕ) → List·Memᴰ c (children m p) → holds m c x ≡ true → word keys c < FAR) where
     border-exact : (c b : ℕ) → List·Memᴰ c (children m p) → boundary m c b ≡ true → rowOf m (active m s) c b .distance < FAR → word dx b ≤ dist m b x
     border-exact c b hc e near = exact b (subst⁻¹ (List·Memᴰ b) (rows-inner m p inner) (boundary-border m net tree p c b hc e)) below
       where
-        below : (i : ℕ) → i < sizeOf m p → rowVertex m p i ≡ b → belowAt mem (partWord mem p 2) i < FAR
+        below : (i : ℕ) → i < sizeOf m p → rowVertex m p i ≡ b → belowAt mem (partWord mem p part·rows) i < FAR
         below i hi same =
             let in-c = boundary-inside m c b e in
             let child : childOf m p (rowVertex m p i) ≡ c = ap (childOf m p) same ∙ child-found m net tree p c b (holds-says m c b in-c .0) hc in-c in
@@ -238,7 +238,7 @@ module _ {m : Map} {s : State} {mem : List ℕ} (g : Genuine m s mem) (x : ℕ) 
         let in-c = boundary-inside m c b (gate .is-boundary) in
         let hb : b < m .vertices = holds-says m c b in-c .0 in
         let child : childOf m p (rowVertex m p i) ≡ c = ap (childOf m p) same ∙ child-found m net tree p c b hb hc in-c in
-        let key : keyOf mem (partWord mem p 2) dx i ≤ dist m v x =
+        let key : keyOf mem (partWord mem p part·rows) dx i ≤ dist m v x =
         omega (
           arith,
           below-read g p hp inner i hi,
@@ -268,7 +268,7 @@ module _ {m : Map} {s : State} {mem : List ℕ} (g : Genuine m s mem) (x : ℕ) 
         let b : ℕ = rowVertex m p i in
         let child = child-of-border g p hp inner b (subst (List·Memᴰ b) (rows-inner m p inner) (row-in g p hp i hi′)) in
         let c : ℕ = childOf m p b in
-        let is : childAt mem (partWord mem p 2) i ≡ c = child-at-read g p hp inner i hi′ in
+        let is : childAt mem (partWord mem p part·rows) i ≡ c = child-at-read g p hp inner i hi′ in
         let apart = child-apart c (child .0) (omega (arith, fresh, ap (word keys) is)) in
         subst⁻¹ (λ (q : ℕ). Waits m s x dx q (word keys′ q)) (e ∙ is)
         (record {
@@ -340,14 +340,14 @@ module _ {m : Map} {s : State} {mem : List ℕ} (g : Genuine m s mem) (x : ℕ) 
       less : (u : ℕ) → word dx′ u ≤ word dx u
       less = opened .0 .no-more
 
-      exact : (r : ℕ) → List·Memᴰ r (rowVertices m q) → ((i : ℕ) → i < sizeOf m q → rowVertex m q i ≡ r → belowAt mem (partWord mem q 2) i < FAR) → word dx′ r ≤ dist m r x
+      exact : (r : ℕ) → List·Memᴰ r (rowVertices m q) → ((i : ℕ) → i < sizeOf m q → rowVertex m q i ≡ r → belowAt mem (partWord mem q part·rows) i < FAR) → word dx′ r ≤ dist m r x
       unfolding q
       exact = part-exact g q (w .is-part) x hx (st .known) (w .apart) (w .gates) inner (opened .0)
 
       own : (c : ℕ) → List·Memᴰ c (children m q) → holds m c x ≡ true → word keys c < FAR
       own c hc held = absurd (true≢false (sym (child-held m net tree q c x hc held) ∙ w .apart))
 
-      all-give : (i : ℕ) → i < sizeOf m q → holds m (childOf m q (rowVertex m q i)) x ≡ false → GivenRow false mem (partWord mem q 2) (rowsIn mem q) dx i
+      all-give : (i : ℕ) → i < sizeOf m q → holds m (childOf m q (rowVertex m q i)) x ≡ false → GivenRow false mem (partWord mem q part·rows) (rowsIn mem q) dx i
       unfolding q
       all-give i hi apart = record { is-row = omega (arith, hi, rows-read g q (w .is-part)); is-given = λ e. absurd (true≢false (sym e)) }
 
@@ -440,11 +440,11 @@ module _ {m : Map} {s : State} {mem : List ℕ} (g : Genuine m s mem) (x : ℕ) 
       exact-above : (r : ℕ) → List·Memᴰ r (rowVertices m above) → word dx′ r ≤ dist m r x
       exact-above = exact-in g above ha (opened .0) asked-is-row x hx (st .known) (asked-every g above ha) inner part child (st .holds-x) (st .gates)
 
-      exact-shown : (r : ℕ) → List·Memᴰ r (rowVertices m above) → ((i : ℕ) → i < sizeOf m above → rowVertex m above i ≡ r → belowAt mem (partWord mem above 2) i < FAR) → word dx′ r ≤ dist m r x
+      exact-shown : (r : ℕ) → List·Memᴰ r (rowVertices m above) → ((i : ℕ) → i < sizeOf m above → rowVertex m above i ≡ r → belowAt mem (partWord mem above part·rows) i < FAR) → word dx′ r ≤ dist m r x
       exact-shown r hr shown = exact-above r hr
 
       -- rows outside the part climbed from had no distance
-      above-gives : (i : ℕ) → i < sizeOf m above → holds m (childOf m above (rowVertex m above i)) x ≡ false → GivenRow true mem (partWord mem above 2) (rowsIn mem above) dx i
+      above-gives : (i : ℕ) → i < sizeOf m above → holds m (childOf m above (rowVertex m above i)) x ≡ false → GivenRow true mem (partWord mem above part·rows) (rowsIn mem above) dx i
       above-gives i hi apart =
           record {
             is-row = omega (arith, hi, rows-read g above ha);

@@ -21,7 +21,7 @@ use Rattle.best_list.specs.Best.{offeredAll, InOrder}
 use Rattle.van_offers.specs.Offers.{rowOffers}
 use Rattle.van_offers.specs.Genuine.{Genuine, listOf}
 use Rattle.far_sums.specs.Least.{Least}
-use Rattle.layout.specs.Layout.{partWord}
+use Rattle.layout.specs.Layout.{part·parent, part·rows, part·table, partWord}
 use Rattle.part_words.specs.Part.{rowsIn}
 use Rattle.row_lists.specs.Rows.{Fits, ownRows, OwnRow}
 use Rattle.row_distances.specs.Distances.{Alone, Closer, Relaxed, outOf}
@@ -33,11 +33,11 @@ use Rattle.question.specs.declared.Search.{Search}
 -- the active rows of a leaf have their distances
 abbrev pub LeafRelaxed : List ℕ → ℕ → List ℕ → List ℕ → Type 0
 LeafRelaxed mem leaf dx dx′ =
-    Closer mem (partWord mem leaf 2) (partWord mem leaf 3) (rowsIn mem leaf) dx (OwnRow mem (partWord mem leaf 2) (rowsIn mem leaf)) dx′
+    Closer mem (partWord mem leaf part·rows) (partWord mem leaf part·table) (rowsIn mem leaf) dx (OwnRow mem (partWord mem leaf part·rows) (rowsIn mem leaf)) dx′
 
 -- what the rows of a leaf that show their own vertex offer, with distances as they are
 abbrev pub offersOf : List ℕ → ℕ → List ℕ → List Listed
-offersOf mem leaf dx = rowOffers mem (countsIn mem) (partWord mem leaf 2) dx (ownRows mem leaf)
+offersOf mem leaf dx = rowOffers mem (countsIn mem) (partWord mem leaf part·rows) dx (ownRows mem leaf)
 
 -- a leaf was looked at
 pub record LeafTaken (mem : List ℕ) (leaf : ℕ) (dx fars vans : List ℕ) (len k : ℕ) (dx′ fars′ vans′ : List ℕ) (len′ : ℕ) : Type 0 where
@@ -50,12 +50,12 @@ pub record OwnTaken (mem : List ℕ) (leaf place : ℕ) (dx : List ℕ) (k : ℕ
   pub few : len′ ≤ k
   pub ordered : InOrder fars′ vans′ len′
   pub looks : Fits mem leaf → place < rowsIn mem leaf
-      → (Alone mem (partWord mem leaf 2) (rowsIn mem leaf) dx place → Relaxed mem leaf true dx dx′) × (listOf mem fars′ vans′ len′ ≡ offeredAll k [] (offersOf mem leaf dx′))
+      → (Alone mem (partWord mem leaf part·rows) (rowsIn mem leaf) dx place → Relaxed mem leaf true dx dx′) × (listOf mem fars′ vans′ len′ ≡ offeredAll k [] (offersOf mem leaf dx′))
 
 -- the bound of what lies outside a part
 pub record BoundOutside (mem : List ℕ) (part : ℕ) (dx : List ℕ) (out : ℕ) : Type 0 where
   pub root : part ≡ 0 → out ≡ FAR
-  pub other : part ≢ 0 → Least (outOf mem (partWord mem (partWord mem part 0) 2) dx part) (rowsIn mem (partWord mem part 0)) out
+  pub other : part ≢ 0 → Least (outOf mem (partWord mem (partWord mem part part·parent) part·rows) dx part) (rowsIn mem (partWord mem part part·parent)) out
 
 -- A search at x.
 

@@ -1,11 +1,16 @@
 // The k nearest free vans to a vertex: around the vertex where they are near, else best first over the parts, with bounds read from the rows.
 use best_list::BestList;
 use best_list::limit_of;
+use cells::lesser;
 use cells::lower;
 use cells::put;
 use cells::wide;
 use cells::word;
 use far_sums::FAR;
+use layout::HeadRecord;
+use layout::PartRecord;
+use layout::VanRecord;
+use layout::VertexRecord;
 use near_vans::near_vans;
 use part_bounds::open_up;
 use part_keys::nearest_waiting;
@@ -22,7 +27,7 @@ use van_offers::vertex_word;
 ghost use mathlib.Core.Path.{_≡_};
 ghost use mathlib.Core.Bool.{true, false};
 ghost use mathlib.Core.List.{List};
-ghost use Prim.Native.Nat.{ℕ, _+_, _-_, _≤_, _<_, _^_, _*_, min};
+ghost use Prim.Native.Nat.{ℕ, _+_, _-_, _≤_, _<_, _^_, _*_};
 ghost use lib.ListN.{length, set};
 ghost use Rattle.words.specs.Limits.{FAR};
 ghost use Rattle.words.specs.Lists.{word};
@@ -63,7 +68,7 @@ fn take_leaf(
 {
     let p = wide(leaf);
     let count = relax_leaf(mem, p, dx, places, near, asked);
-    let first = wide(part_word(mem, p, 2));
+    let first = wide(part_word(mem, p, PartRecord::ROWS));
     offer_rows(
         mem,
         counts_in(mem),
@@ -94,7 +99,7 @@ fn own_leaf(
 {
     let p = wide(leaf);
     let count = relax_own(mem, p, wide(place), dx, asked);
-    let first = wide(part_word(mem, p, 2));
+    let first = wide(part_word(mem, p, PartRecord::ROWS));
     offer_rows(
         mem,
         counts_in(mem),
@@ -119,7 +124,7 @@ fn bound_outside(mem: &[u32], part: u32, dx: &[u32]) -> u32
     if part == 0 {
         return FAR;
     }
-    let p = wide(part_word(mem, wide(part), 0));
+    let p = wide(part_word(mem, wide(part), PartRecord::PARENT));
     way_out(mem, p, part, dx)
 }
 
@@ -150,7 +155,7 @@ fn climb(
 {
     let part = s.part;
     let len = s.len;
-    let above = part_word(mem, wide(part), 0);
+    let above = part_word(mem, wide(part), PartRecord::PARENT);
     if part <= above {
         return Search {
             len: len,
@@ -207,7 +212,7 @@ fn take_waiting(
     let len = s.len;
     let q = give_up(waits, at, n);
     let left = n - 1;
-    if part_word(mem, wide(q), 4) == 0 {
+    if part_word(mem, wide(q), PartRecord::CHILD) == 0 {
         let found = take_leaf(mem, q, dx, places, near, asked, fars, vans, len, k);
         return Search {
             len: found,
@@ -227,12 +232,6 @@ fn take_waiting(
         from: left,
         ended: false,
     }
-}
-
-fn lesser(a: u32, b: u32) -> u32
-    ensures { λ r. ⌜ r ≡ min a b ⌝ }
-{
-    if a < b { a } else { b }
 }
 
 // One turn. Where the last one opened up a part, the nearest of its children is taken: it is as near as the part was. Else the search ends
@@ -335,8 +334,8 @@ fn search_at(
     ensures { λ r. ⌜ (r ≤ k) × ((m : Map) (fleet : State) → Genuine m fleet (now (mem .entry)) → m .vertices ≤ length (now (dx .entry)) → x < m .vertices → listOf (now (mem .entry)) (now (fars .exit)) (now (vans .exit)) r ≡ nearest m fleet x k) ⌝ }
 {
     let counts = counts_in(mem);
-    let leaf = vertex_word(mem, counts, x, 0);
-    let place = vertex_word(mem, counts, x, 1);
+    let leaf = vertex_word(mem, counts, x, VertexRecord::LEAF);
+    let place = vertex_word(mem, counts, x, VertexRecord::PLACE);
     put(dx, wide(x), 0);
     let len = own_leaf(mem, leaf, place, dx, asked, fars, vans, k);
     lower(keys, wide(leaf), 0);
@@ -372,9 +371,9 @@ fn close_by(mem: &[u32], x: u32, k: usize) -> bool
     if FEW_ASKED < k {
         return false;
     }
-    let leaf = wide(vertex_word(mem, counts_in(mem), x, 0));
+    let leaf = wide(vertex_word(mem, counts_in(mem), x, VertexRecord::LEAF));
     let size = rows_in(mem, leaf);
-    let first = wide(part_word(mem, leaf, 2));
+    let first = wide(part_word(mem, leaf, PartRecord::ROWS));
     let active = active_rows(mem, first, size);
     among_few(k, size, active)
 }
@@ -398,7 +397,7 @@ fn over_parts(mem: &[u32], x: u32, k: usize) -> BestList
     requires { ⌜ (1 ≤ k) × (k ≤ 32) ⌝ }
     ensures { λ r. ⌜ (r .len ≤ k) × ((m : Map) (fleet : State) → Genuine m fleet (now (mem .entry)) → x < m .vertices → listIn (now (mem .entry)) r ≡ nearest m fleet x k) ⌝ }
 {
-    if word(mem, 2) <= FEW_VERTICES {
+    if word(mem, HeadRecord::VERTICES) <= FEW_VERTICES {
         let mut dx = [FAR; 1024];
         return search_with(mem, x, k, &mut dx);
     }
@@ -451,7 +450,7 @@ pub fn write_list(mem: &[u32], best: BestList, answer: &mut [u32])
     while i < len {
         let far = fars[i];
         let van = vans[i];
-        let stamp = van_word(mem, counts, van, 3);
+        let stamp = van_word(mem, counts, van, VanRecord::STAMP);
         put3(answer, 3 * i, van, far, stamp);
         i += 1;
     }
