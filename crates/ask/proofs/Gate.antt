@@ -26,7 +26,7 @@ use Rattle.calls.proofs.Screen.{screened-unopened, screened-range, screened-nei
 use Rattle.best_list.specs.declared.BestList.{BestList}
 use Rattle.best_list.proofs.Pass.{length-entries}
 use Rattle.van_offers.specs.Genuine.{Genuine, listIn}
-use Rattle.question.specs.Kept.{written}
+use Rattle.question.specs.Kept.{listWritten}
 
 -- The ranges.
 
@@ -92,8 +92,8 @@ module _ (mem : List ℕ) (x k : ℕ) (out : List ℕ) where
 
     pub asked-listed : {used : ℕ} (best : BestList) {out′ : List ℕ} → used ≡ usedOf mem → 3 * k ≤ length out → best .len ≤ k → length (best .fars) ≡ 32 → length (best .vans) ≡ 32
         → ((m : Map) (s : State) → Genuine m s (take used mem) → x < m .vertices → listIn (take used mem) best ≡ nearest m s x k)
-        → out′ ≡ written (listIn (take used mem) best) out → Asked mem x k out (answered (Accepted (best .len))) out′
-    unfolding written listInto
+        → out′ ≡ listWritten (listIn (take used mem) best) out → Asked mem x k out (answered (Accepted (best .len))) out′
+    unfolding listWritten listInto
     asked-listed {used} best {out′} isUsed enough few fars vans right isOut =
         record {
           screened = screened-neither there fits (λ six. omega arith, λ seven. omega arith);

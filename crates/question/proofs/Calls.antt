@@ -32,7 +32,7 @@ use Rattle.part_keys.proofs.Spreading.{far-lowered, far-most}
 use Rattle.part_keys.proofs.Nearest.{nearest-all}
 use Rattle.question.specs.declared.Search.{Search}
 use Rattle.van_offers.specs.Genuine.{Genuine, listOf}
-use Rattle.question.specs.Kept.{LeafRelaxed, offersOf, LeafTaken, OwnTaken, BoundOutside, Searching, Stands, Climbs, Goes, GoesOn, Fresh}
+use Rattle.question.specs.Kept.{LeafRelaxed, offersOf, LeafTaken, OwnTaken, BoundOutside, SearchingParts, SearchStands, Climbs, Goes, GoesOn, BeforeSearch}
 use Rattle.question.proofs.Shown.{parent-read, child-read, leaf-read, part-fits}
 use Rattle.question.proofs.Turns.{climbed, part-taken}
 use Rattle.question.proofs.Ends.{leaf-taken, stopped, limit-near, own-row, alone, started}
@@ -149,7 +149,7 @@ module _ (mem dx keys waits : List ℕ) (st : Search) (total : farCount keys + s
       fewer = omega (arith, ap farCount isKeys, far-lowered keys keyed 0)
 
 -- Taking a waiting part, and a turn.
-module _ (mem : List ℕ) (k : ℕ) (dx keys waits fars vans : List ℕ) (st : Search) (so : Stands k keys fars vans st) where
+module _ (mem : List ℕ) (k : ℕ) (dx keys waits fars vans : List ℕ) (st : Search) (so : SearchStands k keys fars vans st) where
   module _ (at : ℕ) (h : at < st .waiting) {q wide child : ℕ} {waits₁ : List ℕ} (isPart : q ≡ word waits at) (isWaits : waits₁ ≡ set waits at (word waits (st .waiting - 1)))
       (isWide : wide ≡ q) (isChild : child ≡ partWord mem wide part·child) where
     fits : length waits ≡ 512 → st .waiting ≤ length waits
@@ -172,7 +172,7 @@ module _ (mem : List ℕ) (k : ℕ) (dx keys waits fars vans : List ℕ) (st : S
           on = λ m fleet x marks g hx s. (
             λ e. (
               set marks (word waits at) 1,
-              subst⁻¹ (λ (ws : List ℕ). Searching m fleet x k dx′ keys (set marks (word waits at) 1) ws (st .part) (st .out) (st .waiting - 1) (listOf mem fars′ vans′ len′)) isWaits
+              subst⁻¹ (λ (ws : List ℕ). SearchingParts m fleet x k dx′ keys (set marks (word waits at) 1) ws (st .part) (st .out) (st .waiting - 1) (listOf mem fars′ vans′ len′)) isWaits
                   (leaf-searching m fleet x marks g hx s),
             ),
             λ e. absurd (true≢false (sym e)),
@@ -183,8 +183,8 @@ module _ (mem : List ℕ) (k : ℕ) (dx keys waits fars vans : List ℕ) (st : S
         look = subst (λ (p : ℕ). LeafTaken mem p dx fars vans (st .len) k dx′ fars′ vans′ len′) isPart taken
 
         leaf-searching : (m : Map) (fleet : State) (x : ℕ) (marks : List ℕ) → Genuine m fleet mem → x < m .vertices
-            → Searching m fleet x k dx keys marks waits (st .part) (st .out) (st .waiting) (listOf mem fars vans (st .len))
-            → Searching m fleet x k dx′ keys (set marks (word waits at) 1) (set waits at (word waits (st .waiting - 1))) (st .part) (st .out) (st .waiting - 1) (listOf mem fars′ vans′ len′)
+            → SearchingParts m fleet x k dx keys marks waits (st .part) (st .out) (st .waiting) (listOf mem fars vans (st .len))
+            → SearchingParts m fleet x k dx′ keys (set marks (word waits at) 1) (set waits at (word waits (st .waiting - 1))) (st .part) (st .out) (st .waiting - 1) (listOf mem fars′ vans′ len′)
         leaf-searching m fleet x marks g hx s =
             let hq : word waits at < partCount m = s .waiting at h .is-part in
             let leaf : isLeaf m (word waits at) ≡ true = no-first-child m (word waits at) (sym (child-read g (word waits at) hq) ∙ sym child-is ∙ none) in
@@ -238,7 +238,7 @@ module _ (mem : List ℕ) (k : ℕ) (dx keys waits fars vans : List ℕ) (st : S
           };
           on = λ m fleet x marks g hx s.
               let (on, searching) = up .climbs m fleet x k marks (listOf mem fars vans (st .len)) g hx s (omega (arith, limit-near g x hx k (so .some) s)) in (
-                λ e. (marks, subst⁻¹ (λ (n : ℕ). Searching m fleet x k dx′ keys′ marks waits′ (st′ .part) (st′ .out) (st′ .waiting) (listOf mem fars vans n)) (up .same-list) searching),
+                λ e. (marks, subst⁻¹ (λ (n : ℕ). SearchingParts m fleet x k dx′ keys′ marks waits′ (st′ .part) (st′ .out) (st′ .waiting) (listOf mem fars vans n)) (up .same-list) searching),
                 λ e. absurd (true≢false (sym e ∙ on)),
               );
         }
@@ -265,16 +265,16 @@ on-and-on mem k dx₀ keys₀ waits₀ fars₀ vans₀ st₀ dx keys waits fars 
     goes .on m fleet x marks g hx searching
 
 -- and so it stands before the next
-pub stands-still : {mem : List ℕ} {k : ℕ} {dx keys waits fars vans : List ℕ} {st : Search} {dx′ keys′ waits′ fars′ vans′ : List ℕ} {st′ : Search} → Stands k keys fars vans st
-    → Goes mem k dx keys waits fars vans st dx′ keys′ waits′ fars′ vans′ st′ → Stands k keys′ fars′ vans′ st′
+pub stands-still : {mem : List ℕ} {k : ℕ} {dx keys waits fars vans : List ℕ} {st : Search} {dx′ keys′ waits′ fars′ vans′ : List ℕ} {st′ : Search} → SearchStands k keys fars vans st
+    → Goes mem k dx keys waits fars vans st dx′ keys′ waits′ fars′ vans′ st′ → SearchStands k keys′ fars′ vans′ st′
 stands-still so goes =
     record { few = goes .shrunk .few; some = so .some; most = so .most; ordered = goes .shrunk .ordered; total = goes .shrunk .total }
 
 -- The start.
-module _ (mem : List ℕ) (x k : ℕ) (dx keys waits : List ℕ) (some : 1 ≤ k) (most : k ≤ 32) (fresh : Fresh dx keys waits) {counts : Counts} {leaf place at : ℕ} {dx₁ dx′ keys′ fars vans : List ℕ}
+module _ (mem : List ℕ) (x k : ℕ) (dx keys waits : List ℕ) (some : 1 ≤ k) (most : k ≤ 32) (fresh : BeforeSearch dx keys waits) {counts : Counts} {leaf place at : ℕ} {dx₁ dx′ keys′ fars vans : List ℕ}
     {len keyed : ℕ} (isCounts : counts ≡ countsIn mem) (isLeaf′ : leaf ≡ word mem (vertexAddress counts x + 0)) (isPlace : place ≡ word mem (vertexAddress counts x + 1)) (isAt : at ≡ x) (isStart : dx₁ ≡ set dx at 0)
     (taken : OwnTaken mem leaf place dx₁ k dx′ fars vans len) (isKeyed : keyed ≡ leaf) (isKeys : keys′ ≡ lowered keys keyed 0) where
-  pub begun : (out : ℕ) → Stands k keys′ fars vans (record { len = len; part = leaf; out = out; waiting = 0; from = 0; ended = false })
+  pub begun : (out : ℕ) → SearchStands k keys′ fars vans (record { len = len; part = leaf; out = out; waiting = 0; from = 0; ended = false })
   begun out =
       record {
         few = taken .few;
@@ -313,7 +313,7 @@ module _ (mem : List ℕ) (x k : ℕ) (dx keys waits : List ℕ) (some : 1 ≤ k
 pub far-array : (n v : ℕ) → v < length (replicate {A = ℕ} n FAR) → word (replicate n FAR) v ≡ FAR
 far-array n v h = getD-replicate n v FAR 0 (omega (arith, length-replicate {A = ℕ} n FAR))
 
-pub fresh-arrays : {dx : List ℕ} → ((v : ℕ) → v < length dx → word dx v ≡ FAR) → Fresh dx (replicate 512 FAR) (replicate 512 0)
+pub fresh-arrays : {dx : List ℕ} → ((v : ℕ) → v < length dx → word dx v ≡ FAR) → BeforeSearch dx (replicate 512 FAR) (replicate 512 0)
 fresh-arrays none =
     record {
       no-distance = none;

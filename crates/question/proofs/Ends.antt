@@ -44,7 +44,7 @@ use Rattle.far_sums.proofs.Lowering.{lowered-length, lowered-here, lowered-foun
 use Rattle.van_offers.specs.Genuine.{Genuine}
 use Rattle.van_offers.proofs.Heading.{Comer, head-below, head-active}
 use Rattle.van_offers.proofs.Comers.{comers, comer-near, settled}
-use Rattle.question.specs.Kept.{LeafRelaxed, offersOf, BoundOutside, Coming, Covered, Waits, Searching, vanLeaf, isOffered}
+use Rattle.question.specs.Kept.{LeafRelaxed, offersOf, BoundOutside, Coming, Covered, Waits, SearchingParts, vanLeaf, isLookedAt}
 use Rattle.question.proofs.Shown.{rows-read, owner-read, row-below, one-row, place-of-own}
 use Rattle.question.proofs.Exact.{still-honest, exact-own, known-own}
 use Rattle.question.proofs.Asked.{asked-is-row, own-is-row, asked-every, leaf-exact, leaf-known}
@@ -52,8 +52,8 @@ use Rattle.question.proofs.Leaves.{comer-leaf, own-best}
 use Rattle.question.proofs.Turns.{fewer, still-waited, none-again, fewer-apart, fewer-keyed, fewer-unmarked, covered-without, bound-outside, closer-waits, now-inside}
 
 -- no mark is set: nothing was offered
-not-offered : (m : Map) (s : State) (marks : List ℕ) → ((q : ℕ) → word marks q ≡ 0) → (l : Listed) → isOffered m s marks l ≡ false
-unfolding isOffered
+not-offered : (m : Map) (s : State) (marks : List ℕ) → ((q : ℕ) → word marks q ≡ 0) → (l : Listed) → isLookedAt m s marks l ≡ false
+unfolding isLookedAt
 not-offered m s marks no-marks l = ne-eqb (word marks (vanLeaf m (slotOf s (l .van)))) 1 (λ e. omega (arith, e, no-marks (vanLeaf m (slotOf s (l .van)))))
 
 keep-none : (test : Listed → Bool) (all : List Listed) → ((l : Listed) → test l ≡ false) → keep test all ≡ []
@@ -81,14 +81,14 @@ module _ {m : Map} {s : State} {mem : List ℕ} (g : Genuine m s mem) (x : ℕ) 
   -- the list after a look, where the leaf's active vertices have their distances
   looked : (q : ℕ) → q < partCount m → isLeaf m q ≡ true → (marks dx′ : List ℕ) (found found′ : List Listed) → length marks ≡ 512 → word marks q ≢ 1
       → found′ ≡ offeredAll k found (offersOf mem q dx′) → ((v : ℕ) → v < m .vertices → dist m v x ≤ word dx′ v)
-      → ((r : ℕ) → List·Memᴰ r (rowVertices m q) → active m s r ≡ true → word dx′ r ≤ dist m r x) → found ≡ take k (sorted (keep (isOffered m s marks) (comingFrom m x 0 (s .vans))))
-      → found′ ≡ take k (sorted (keep (isOffered m s (set marks q 1)) (comingFrom m x 0 (s .vans))))
+      → ((r : ℕ) → List·Memᴰ r (rowVertices m q) → active m s r ≡ true → word dx′ r ≤ dist m r x) → found ≡ take k (sorted (keep (isLookedAt m s marks) (comingFrom m x 0 (s .vans))))
+      → found′ ≡ take k (sorted (keep (isLookedAt m s (set marks q 1)) (comingFrom m x 0 (s .vans))))
   looked q hq leaf marks dx′ found found′ long fresh look honest exact list =
       look
       ∙ ap (λ (l : List Listed). offeredAll k l (offersOf mem q dx′)) list
       ∙ own-best g x q hq leaf dx′ (λ r hr act. omega (arith, honest r (row-vertex m q r hr), exact r hr act)) k some marks long fresh
 
-  module _ {dx keys marks waits : List ℕ} {part out n : ℕ} {found : List Listed} (st : Searching m s x k dx keys marks waits part out n found) where
+  module _ {dx keys marks waits : List ℕ} {part out n : ℕ} {found : List Listed} (st : SearchingParts m s x k dx keys marks waits part out n found) where
     -- A waiting leaf is taken.
     module _ (at : ℕ) (h : at < n) (fits : n ≤ length waits) (leaf : isLeaf m (word waits at) ≡ true) where
       q : ℕ
@@ -116,7 +116,7 @@ module _ {m : Map} {s : State} {mem : List ℕ} (g : Genuine m s mem) (x : ℕ) 
           (covered-without waits at n h fits m marks low v c)
 
       pub leaf-taken : {dx′ : List ℕ} {found′ : List Listed} → LeafRelaxed mem (word waits at) dx dx′ → found′ ≡ offeredAll k found (offersOf mem (word waits at) dx′)
-          → Searching m s x k dx′ keys (set marks (word waits at) 1) (fewer waits at n h fits) part out (n - 1) found′
+          → SearchingParts m s x k dx′ keys (set marks (word waits at) 1) (fewer waits at n h fits) part out (n - 1) found′
       unfolding q
       leaf-taken {dx′} {found′} relaxed look =
           record {
@@ -179,10 +179,10 @@ module _ {m : Map} {s : State} {mem : List ℕ} (g : Genuine m s mem) (x : ℕ) 
 
     -- The search stops: what lies outside and what waits is farther than the limit.
     pub stopped : (key : ℕ) → Least (keyAt keys waits) n key → limitOf k found < out → limitOf k found < key → found ≡ nearest m s x k
-    unfolding isOffered keyAt
-    stopped key least beyond-out beyond-key = settled g x k some (isOffered m s marks) (st .list) rest
+    unfolding isLookedAt keyAt
+    stopped key least beyond-out beyond-key = settled g x k some (isLookedAt m s marks) (st .list) rest
       where
-        rest : (l : Listed) → Comer g x l → (isOffered m s marks l ≡ true) ⊎ (limitOf k found < l .distance)
+        rest : (l : Listed) → Comer g x l → (isLookedAt m s marks l ≡ true) ⊎ (limitOf k found < l .distance)
         rest l c = by (true-or-false (holds m part v))
           where
             v : ℕ
@@ -191,7 +191,7 @@ module _ {m : Map} {s : State} {mem : List ℕ} (g : Genuine m s mem) (x : ℕ) 
             comes : Coming m s x v × (dist m v x ≤ l .distance)
             comes = comer-comes l c
 
-            by : (holds m part v ≡ true) ⊎ (holds m part v ≡ false) → (isOffered m s marks l ≡ true) ⊎ (limitOf k found < l .distance)
+            by : (holds m part v ≡ true) ⊎ (holds m part v ≡ false) → (isLookedAt m s marks l ≡ true) ⊎ (limitOf k found < l .distance)
             by (inr out′) = inr (omega (arith, st .outside v (comes .0 .vertex) out′, comes .1))
             by (inl inside) =
                 ⊎-elim
@@ -201,7 +201,7 @@ module _ {m : Map} {s : State} {mem : List ℕ} (g : Genuine m s mem) (x : ℕ) 
 
     -- the limit of the list is below FAR
     pub limit-near : limitOf k found < FAR
-    limit-near = limit-below k some (comers g x) (coming-distinct m x 0 (s .vans)) (comer-near g x) (isOffered m s marks) found (st .list)
+    limit-near = limit-below k some (comers g x) (coming-distinct m x 0 (s .vans)) (comer-near g x) (isLookedAt m s marks) found (st .list)
 
   -- The start: the leaf of x.
   module _ (dx₀ : List ℕ) {dx : List ℕ} (far : (v : ℕ) → v < length dx₀ → word dx₀ v ≡ FAR) (room : m .vertices ≤ length dx₀) (isStart : dx ≡ set dx₀ x 0) (leaf : ℕ) (isLeaf′ : leaf ≡ leafOf m x) where
@@ -276,9 +276,9 @@ module _ {m : Map} {s : State} {mem : List ℕ} (g : Genuine m s mem) (x : ℕ) 
             | no other ↦ absurd (omega (arith, some, elsewhere v hv other))
           ]
 
-      none-offered : [] ≡ take k (sorted (keep (isOffered m s marks) (comingFrom m x 0 (s .vans))))
+      none-offered : [] ≡ take k (sorted (keep (isLookedAt m s marks) (comingFrom m x 0 (s .vans))))
       unfolding sorted
-      none-offered = sym (ap (λ (l : List Listed). take k (sorted l)) (keep-none (isOffered m s marks) (comingFrom m x 0 (s .vans)) (not-offered m s marks no-marks)) ∙ take-nil k)
+      none-offered = sym (ap (λ (l : List Listed). take k (sorted l)) (keep-none (isLookedAt m s marks) (comingFrom m x 0 (s .vans)) (not-offered m s marks no-marks)) ∙ take-nil k)
 
       covered : (low v : ℕ) → holds m leaf v ≡ true → Covered m (set marks leaf 1) waits 0 low v
       covered low v inside = inl (ap (word (set marks leaf 1)) (leaf-of-held m net tree leaf v is-leaf inside) ∙ marks-new marks leaf hl marks-long)
@@ -298,7 +298,7 @@ module _ {m : Map} {s : State} {mem : List ℕ} (g : Genuine m s mem) (x : ℕ) 
             | no other ↦ absurd (omega (arith, getD-set-other marks leaf q 1 0 other, marked, no-marks q))
           ]
 
-      pub started : Searching m s x k dx′ keys₁ (set marks leaf 1) waits leaf out 0 found′
+      pub started : SearchingParts m s x k dx′ keys₁ (set marks leaf 1) waits leaf out 0 found′
       started =
           record {
             keys-length = ap length isKeys ∙ lowered-length keys leaf 0 ∙ keys-long;

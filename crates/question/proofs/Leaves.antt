@@ -38,7 +38,7 @@ use Rattle.row_lists.specs.Rows.{showsOwn}
 use Rattle.van_offers.specs.Genuine.{Genuine}
 use Rattle.van_offers.proofs.Heading.{Comer, offers-say, offers-have, offers-distinct, head-below, head-active, idle-link}
 use Rattle.van_offers.proofs.Comers.{comers, comer-says, comer-has, comer-near}
-use Rattle.question.specs.Kept.{offersOf, vanLeaf, isOffered}
+use Rattle.question.specs.Kept.{offersOf, vanLeaf, isLookedAt}
 use Rattle.question.proofs.Shown.{rows-read, owner-read, row-below, row-in, place-read, own-shown}
 
 distinct-append : {a b : List Listed} → Distinct a → Distinct b → ((x y : Listed) → List·Memᴰ x a → List·Memᴰ y b → x .van ≢ y .van) → Distinct (a ++ b)
@@ -231,13 +231,13 @@ module _ {m : Map} {s : State} {mem : List ℕ} (g : Genuine m s mem) (x : ℕ) 
       kept : (p : ℕ) → p ≢ q → word (set marks q 1) p ≡ word marks p
       kept p other = getD-set-other marks q p 1 0 other
 
-      mark-is : (l : Listed) (c : Comer g x l) (marks′ : List ℕ) → isOffered m s marks′ l ≡ eqb (word marks′ (leafOf m (headOf m (c .van)))) 1
-      unfolding isOffered
+      mark-is : (l : Listed) (c : Comer g x l) (marks′ : List ℕ) → isLookedAt m s marks′ l ≡ eqb (word marks′ (leafOf m (headOf m (c .van)))) 1
+      unfolding isLookedAt
       mark-is l c marks′ = ap (λ (p : ℕ). eqb (word marks′ p) 1) (comer-leaf l c)
 
-      leaf-best : offeredAll k (take k (sorted (keep (isOffered m s marks) (comers g x)))) leafList ≡ take k (sorted (keep (isOffered m s (set marks q 1)) (comers g x)))
+      leaf-best : offeredAll k (take k (sorted (keep (isLookedAt m s marks) (comers g x)))) leafList ≡ take k (sorted (keep (isLookedAt m s (set marks q 1)) (comers g x)))
       leaf-best =
-          offered-more k some (comers g x) (coming-distinct m x 0 (s .vans)) (comer-near g x) (isOffered m s marks) (isOffered m s (set marks q 1)) leafList
+          offered-more k some (comers g x) (coming-distinct m x 0 (s .vans)) (comer-near g x) (isLookedAt m s marks) (isLookedAt m s (set marks q 1)) leafList
           (all-distinct (rowsIn mem q) 0 (omega (arith, within)))
           (λ e h.
           let told = leaf-says e h in
@@ -245,17 +245,17 @@ module _ {m : Map} {s : State} {mem : List ℕ} (g : Genuine m s mem) (x : ℕ) 
           (λ l h e. says l (comer-says g x l h) e)
           (λ l h e. has l (comer-says g x l h) e)
         where
-          says : (l : Listed) (c : Comer g x l) → isOffered m s (set marks q 1) l ≡ true → (isOffered m s marks l ≡ true) ⊎ List·Memᴰ l leafList
+          says : (l : Listed) (c : Comer g x l) → isLookedAt m s (set marks q 1) l ≡ true → (isLookedAt m s marks l ≡ true) ⊎ List·Memᴰ l leafList
           says l c e =
               elim (ℕ-discrete (leafOf m (headOf m (c .van))) q) [
                 | yes own ↦ inr (leaf-has l c own)
                 | no other ↦ inl (mark-is l c marks ∙ ap (λ (w : ℕ). eqb w 1) (sym (kept (leafOf m (headOf m (c .van))) other)) ∙ sym (mark-is l c (set marks q 1)) ∙ e)
               ]
 
-          own-marked : (l : Listed) (c : Comer g x l) → leafOf m (headOf m (c .van)) ≡ q → isOffered m s (set marks q 1) l ≡ true
+          own-marked : (l : Listed) (c : Comer g x l) → leafOf m (headOf m (c .van)) ≡ q → isLookedAt m s (set marks q 1) l ≡ true
           own-marked l c own = mark-is l c (set marks q 1) ∙ ap (λ (p : ℕ). eqb (word (set marks q 1) p) 1) own ∙ eq-eqb (word (set marks q 1) q) 1 marked
 
-          has : (l : Listed) (c : Comer g x l) → (isOffered m s marks l ≡ true) ⊎ List·Memᴰ l leafList → isOffered m s (set marks q 1) l ≡ true
+          has : (l : Listed) (c : Comer g x l) → (isLookedAt m s marks l ≡ true) ⊎ List·Memᴰ l leafList → isLookedAt m s (set marks q 1) l ≡ true
           has l c (inr h) = let told = leaf-says l h in own-marked l (told .0) (told .1)
           has l c (inl e) =
               elim (ℕ-discrete (leafOf m (headOf m (c .van))) q) [
@@ -263,5 +263,5 @@ module _ {m : Map} {s : State} {mem : List ℕ} (g : Genuine m s mem) (x : ℕ) 
                 | no other ↦ mark-is l c (set marks q 1) ∙ ap (λ (w : ℕ). eqb w 1) (kept (leafOf m (headOf m (c .van))) other) ∙ sym (mark-is l c marks) ∙ e
               ]
 
-      pub own-best : offeredAll k (take k (sorted (keep (isOffered m s marks) (comers g x)))) (offersOf mem q dx) ≡ take k (sorted (keep (isOffered m s (set marks q 1)) (comers g x)))
-      own-best = ap (offeredAll k (take k (sorted (keep (isOffered m s marks) (comers g x))))) (own-enough (rowsIn mem q) 0 (omega (arith, within))) ∙ leaf-best
+      pub own-best : offeredAll k (take k (sorted (keep (isLookedAt m s marks) (comers g x)))) (offersOf mem q dx) ≡ take k (sorted (keep (isLookedAt m s (set marks q 1)) (comers g x)))
+      own-best = ap (offeredAll k (take k (sorted (keep (isLookedAt m s marks) (comers g x))))) (own-enough (rowsIn mem q) 0 (omega (arith, within))) ∙ leaf-best

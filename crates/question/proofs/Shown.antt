@@ -105,11 +105,11 @@ module _ {m : Map} {s : State} {mem : List ℕ} (g : Genuine m s mem) where
     pub row-below : (i : ℕ) → i < sizeOf m p → rowVertex m p i < m .vertices
     row-below i hi = row-vertex m p (rowVertex m p i) (row-in i hi)
 
-    shown : (i w : ℕ) → i < sizeOf m p → w < 4
+    shown : (i w : ℕ) → i < sizeOf m p → w < row·words
         → word mem (partWord mem p part·rows + row·words * i + w)
         ≡ word (rowRecord (rowOf m (active m s) p (rowVertex m p i)) (rowVertex m p i) (partBelow m p (rowVertex m p i)) (rowBelow m p (rowVertex m p i))) w
     shown i w hi hw =
-        ap (λ (k : ℕ). word mem (k + 4 * i + w)) first-read ∙ at-word g (firstRowOf m p + 4 * i + w) ∙ shown-word m s (slots g) p i w hp hi hw
+        ap (λ (k : ℕ). word mem (k + row·words * i + w)) first-read ∙ at-word g (firstRowOf m p + row·words * i + w) ∙ shown-word m s (slots g) p i w hp hi hw
 
     small : (i : ℕ) → i < sizeOf m p → rowVertex m p i < 65536
     small i hi = omega (arith, row-below i hi, g .sound .vertices)

@@ -39,7 +39,7 @@ use Rattle.cells.specs.Lowered.{lowered}
 use Rattle.part_bounds.specs.Bounds.{OpenedUp, GivenRow}
 use Rattle.far_sums.proofs.Lowering.{lowered-no-more, lowered-here, lowered-found, lowered-length}
 use Rattle.van_offers.specs.Genuine.{Genuine}
-use Rattle.question.specs.Kept.{BoundOutside, Coming, Covered, Waits, Searching, isOffered}
+use Rattle.question.specs.Kept.{BoundOutside, Coming, Covered, Waits, SearchingParts, isLookedAt}
 use Rattle.question.proofs.Shown.{parent-read, rows-read, owner-read, child-at-read, below-read, place-read, row-in, child-of-border, row-below}
 use Rattle.question.proofs.Exact.{still-honest, exact-in, known-in}
 use Rattle.question.proofs.Asked.{asked-is-row, asked-every, part-exact, part-known}
@@ -327,7 +327,7 @@ module _ {m : Map} {s : State} {mem : List ℕ} (g : Genuine m s mem) (x : ℕ) 
       record { is-part = w .is-part; apart = w .apart; gates = λ b e near. omega (arith, less b, w .gates b e near); bound = w .bound }
 
   -- A waiting part with children is taken.
-  module _ {k : ℕ} {dx keys marks waits : List ℕ} {part out n : ℕ} {found : List Listed} (st : Searching m s x k dx keys marks waits part out n found) where
+  module _ {k : ℕ} {dx keys marks waits : List ℕ} {part out n : ℕ} {found : List Listed} (st : SearchingParts m s x k dx keys marks waits part out n found) where
     module _ (at : ℕ) (h : at < n) (fits : n ≤ length waits) {dx′ keys′ waits′ : List ℕ} {n′ : ℕ} (inner : isLeaf m (word waits at) ≡ false)
         (opened : OpenedUp mem (word waits at) false dx keys (fewer waits at n h fits) (n - 1) dx′ keys′ waits′ n′) where
       q : ℕ
@@ -368,7 +368,7 @@ module _ {m : Map} {s : State} {mem : List ℕ} (g : Genuine m s mem) (x : ℕ) 
               (λ (from, held). absurd (omega (arith, from, after)))
               (covered-without waits at n h fits m marks c u (st .keyed c key u comes inside))
 
-      pub part-taken : Searching m s x k dx′ keys′ marks waits′ part out n′ found
+      pub part-taken : SearchingParts m s x k dx′ keys′ marks waits′ part out n′ found
       unfolding q
       part-taken =
           record {
@@ -484,7 +484,7 @@ module _ {m : Map} {s : State} {mem : List ℕ} (g : Genuine m s mem) (x : ℕ) 
       gates′ : (b : ℕ) → boundary m above b ≡ true → word dx′ b ≤ dist m b x
       gates′ b e = exact-above b (boundary-row m net tree above b e)
 
-      pub climbed : Searching m s x k dx′ keys′ marks waits′ above out′ n′ found
+      pub climbed : SearchingParts m s x k dx′ keys′ marks waits′ above out′ n′ found
       climbed =
           record {
             keys-length = opened .1 .keys-length ∙ lowered-length keys part 0 ∙ st .keys-length;

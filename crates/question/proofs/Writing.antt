@@ -16,7 +16,7 @@ use Rattle.best_list.specs.Best.{listed, entries}
 use Rattle.best_list.proofs.Pass.{length-entries, entries-at}
 use Rattle.van_offers.specs.Offers.{stampIn}
 use Rattle.places.specs.Place.{vanAddress}
-use Rattle.question.specs.Kept.{written}
+use Rattle.question.specs.Kept.{listWritten}
 
 -- three words written behind others
 three : (front back : List ℕ) (a b c : ℕ) → 3 ≤ length back
@@ -91,8 +91,8 @@ module _ {list : List Listed} {before : List ℕ} {i : ℕ} {now : List ℕ} (w 
           let onward : 3 * i + 3 ≡ 3 * (i + 1) = omega arith in
           drop-drop 3 (3 * i) before ∙ ap (λ (n : ℕ). drop n before) onward
 
-pub writing-all : {list : List Listed} {before : List ℕ} {i : ℕ} {now : List ℕ} → Writing list before i now → length list ≤ i → now ≡ written list before
-unfolding written
+pub writing-all : {list : List Listed} {before : List ℕ} {i : ℕ} {now : List ℕ} → Writing list before i now → length list ≤ i → now ≡ listWritten list before
+unfolding listWritten
 writing-all {list} {before} {i} {now} w all =
     let same : i ≡ length list = omega (arith, w .within) in
     w .so-far ∙ ap₂ (λ (xs : List Listed) (n : ℕ). gather listedWords xs ++ drop (3 * n) before) (take-all i list all) same
@@ -114,6 +114,6 @@ module _ (mem : List ℕ) (counts : Counts) (fars vans : List ℕ) (len : ℕ) (
       (ap length isNow ∙ simp length-set)
 
   pub write-all : (i : ℕ) {now : List ℕ} → counts ≡ countsIn mem → Writing (entries (stampIn mem counts) fars vans len) before i now → len ≤ i
-      → now ≡ written (entries (stampIn mem (countsIn mem)) fars vans len) before
+      → now ≡ listWritten (entries (stampIn mem (countsIn mem)) fars vans len) before
   write-all i isCounts w all =
-      writing-all w (omega (arith, list-length)) ∙ ap (λ (c : Counts). written (entries (stampIn mem c) fars vans len) before) isCounts
+      writing-all w (omega (arith, list-length)) ∙ ap (λ (c : Counts). listWritten (entries (stampIn mem c) fars vans len) before) isCounts

@@ -37,7 +37,7 @@ ghost use Rattle.fleet.specs.Question.{nearest};
 ghost use Rattle.part_keys.specs.Keys.{farCount};
 ghost use Rattle.best_list.specs.Best.{InOrder};
 ghost use Rattle.van_offers.specs.Genuine.{Genuine, listIn, listOf};
-ghost use Rattle.question.specs.Kept.{LeafTaken, OwnTaken, BoundOutside, Climbs, Stands, Goes, GoesOn, Fresh, written};
+ghost use Rattle.question.specs.Kept.{LeafTaken, OwnTaken, BoundOutside, Climbs, SearchStands, Goes, GoesOn, BeforeSearch, listWritten};
 
 // A search between two turns: how many vans are listed, the part climbed to, the bound of what lies outside it, how many parts wait, and
 // from which on those that joined in the last turn.
@@ -205,7 +205,7 @@ fn take_waiting(
     s: Search,
     at: usize,
 ) -> Search
-    requires { ⌜ Stands k (now keys) (now fars) (now vans) s × (at < s .waiting) ⌝ }
+    requires { ⌜ SearchStands k (now keys) (now fars) (now vans) s × (at < s .waiting) ⌝ }
     ensures { λ r. ⌜ Goes (now (mem .entry)) k (now (dx .entry)) (now (keys .entry)) (now (waits .entry)) (now (fars .entry)) (now (vans .entry)) s (now (dx .exit)) (now (keys .exit)) (now (waits .exit)) (now (fars .exit)) (now (vans .exit)) r ⌝ }
 {
     let n = s.waiting;
@@ -249,7 +249,7 @@ fn turn(
     vans: &mut [u32; 32],
     s: Search,
 ) -> Search
-    requires { ⌜ Stands k (now keys) (now fars) (now vans) s ⌝ }
+    requires { ⌜ SearchStands k (now keys) (now fars) (now vans) s ⌝ }
     ensures { λ r. ⌜ Goes (now (mem .entry)) k (now (dx .entry)) (now (keys .entry)) (now (waits .entry)) (now (fars .entry)) (now (vans .entry)) s (now (dx .exit)) (now (keys .exit)) (now (waits .exit)) (now (fars .exit)) (now (vans .exit)) r ⌝ }
 {
     let n = s.waiting;
@@ -306,7 +306,7 @@ fn search_on(
     vans: &mut [u32; 32],
     s: Search,
 ) -> usize
-    requires { ⌜ Stands k (now keys) (now fars) (now vans) s ⌝ }
+    requires { ⌜ SearchStands k (now keys) (now fars) (now vans) s ⌝ }
     ensures { λ r. ⌜ (r ≤ k) × ((m : Map) (fleet : State) (x : ℕ) → Genuine m fleet (now (mem .entry)) → x < m .vertices → GoesOn m fleet x k (now (mem .entry)) (now (dx .entry)) (now (keys .entry)) (now (waits .entry)) (now (fars .entry)) (now (vans .entry)) s → listOf (now (mem .entry)) (now (fars .exit)) (now (vans .exit)) r ≡ nearest m fleet x k) ⌝ }
 {
     let mut st = s;
@@ -330,7 +330,7 @@ fn search_at(
     fars: &mut [u32; 32],
     vans: &mut [u32; 32],
 ) -> usize
-    requires { ⌜ (1 ≤ k) × (k ≤ 32) × Fresh (now dx) (now keys) (now waits) × InOrder (now fars) (now vans) 0 ⌝ }
+    requires { ⌜ (1 ≤ k) × (k ≤ 32) × BeforeSearch (now dx) (now keys) (now waits) × InOrder (now fars) (now vans) 0 ⌝ }
     ensures { λ r. ⌜ (r ≤ k) × ((m : Map) (fleet : State) → Genuine m fleet (now (mem .entry)) → m .vertices ≤ length (now (dx .entry)) → x < m .vertices → listOf (now (mem .entry)) (now (fars .exit)) (now (vans .exit)) r ≡ nearest m fleet x k) ⌝ }
 {
     let counts = counts_in(mem);
@@ -440,7 +440,7 @@ fn search_with(mem: &[u32], x: u32, k: usize, dx: &mut [u32]) -> BestList
 // The list is written over the first words of the answer: van, distance and stamp of each.
 pub fn write_list(mem: &[u32], best: BestList, answer: &mut [u32])
     requires { ⌜ (best .len ≤ 32) × (3 * best .len ≤ length (now answer)) ⌝ }
-    ensures { λ _. ⌜ now (answer .exit) ≡ written (listIn (now (mem .entry)) best) (now (answer .entry)) ⌝ }
+    ensures { λ _. ⌜ now (answer .exit) ≡ listWritten (listIn (now (mem .entry)) best) (now (answer .entry)) ⌝ }
 {
     let counts = counts_in(mem);
     let len = best.len;

@@ -9,7 +9,7 @@ use Rattle.roads.specs.Map.{Map}
 use Rattle.fleet.specs.State.{State}
 use Rattle.part_keys.specs.Keys.{farCount}
 use Rattle.van_offers.specs.Genuine.{Genuine}
-use Rattle.question.specs.Kept.{Stands, GoesOn}
+use Rattle.question.specs.Kept.{SearchStands, GoesOn}
 use Rattle.question.proofs.Calls.{leftOf, less-left, on-and-on, stands-still}
 use borrow.Author.Needs.{needs}
 use Rattle.question.proofs.search_on.Statement.{statement}
@@ -17,7 +17,7 @@ use Rattle.question.proofs.search_on.Tie as tie
 
 abbrev Inv-loop : tie.InvT-loop
 Inv-loop mem k dx₀ keys₀ waits₀ places₀ near₀ asked₀ fars₀ vans₀ st₀ dx keys waits places near asked fars vans st =
-    Stands k keys fars vans st × (length dx ≡ length dx₀)
+    SearchStands k keys fars vans st × (length dx ≡ length dx₀)
     × ((m : Map) (fleet : State) (x : ℕ) → Genuine m fleet mem → x < m .vertices → GoesOn m fleet x k mem dx₀ keys₀ waits₀ fars₀ vans₀ st₀ → GoesOn m fleet x k mem dx keys waits fars vans st)
 
 abbrev μ-loop : tie.MeasureT-loop
