@@ -9,7 +9,9 @@ returns : tie.Need-returns
 returns c = bound-root _ _ _ (c .if1 .taken)
 
 returns-2 : tie.Need-returns-2
-returns-2 c = bound-other _ _ _ (c .before .before .before .before .if1 .left) (c .before .before .before .wide .ensures) (c .before .before .part-word .ensures) (c .before .wide2 .ensures) (c .way-out .ensures)
+returns-2 c =
+    let at-wide = c .before .before .before in
+    bound-other _ _ _ (at-wide .before .if1 .left) (at-wide .wide .ensures) (c .before .before .part-word .ensures) (c .before .wide2 .ensures) (c .way-out .ensures)
 
 pub bound-outside-spec : {M : Type 1} → statement M
 bound-outside-spec =

@@ -6,7 +6,10 @@ use Rattle.question.proofs.give_up.Statement.{statement}
 use Rattle.question.proofs.give_up.Tie as tie
 
 returns : tie.Need-returns
-returns c = given-up (c .before .before .before .before .before .before .before .before .args .waits .now) (c .before .before .before .before .before .before .before .before .args .at) (c .before .before .before .before .before .before .before .before .args .n) (c .before .before .before .before .before .word .ensures) (c .before .before .word2 .ensures) (c .put .ensures)
+returns c =
+    let at-word = c .before .before .before .before .before in
+    let start = at-word .before .before .before in
+    given-up (start .args .waits .now) (start .args .at) (start .args .n) (at-word .word .ensures) (c .before .before .word2 .ensures) (c .put .ensures)
 
 pub give-up-spec : {M : Type 1} → statement M
 give-up-spec =

@@ -15,14 +15,27 @@ own-leaf-requires : tie.Need-own-leaf-requires
 own-leaf-requires c κs = search needs
 
 search-on-requires : tie.Need-search-on-requires
-search-on-requires c κs = begun (c .before .before .before .before .before .before .before .before .before .before .before .before .before .before .before .before .before .before .before .before .before .before .before .before .before .before .before .before .before .before .args .mem .now) (c .before .before .before .before .before .before .before .before .before .before .before .before .before .before .before .before .before .before .before .before .before .before .before .before .before .before .before .before .before .before .args .x) (c .before .before .before .before .before .before .before .before .before .before .before .before .before .before .before .before .before .before .before .before .before .before .before .before .before .before .before .before .before .before .args .k) (c .before .before .before .before .before .before .before .before .before .before .before .before .before .before .before .before .before .before .before .before .before .before .before .before .before .before .before .before .before .before .args .dx .now) (c .before .before .before .before .before .before .before .before .before .before .before .before .before .before .before .before .before .before .before .before .before .before .before .before .before .before .before .before .before .before .args .keys .now) (c .before .before .before .before .before .before .before .before .before .before .before .before .before .before .before .before .before .before .before .before .before .before .before .before .before .before .before .before .before .before .args .waits .now) (c .before .before .before .before .before .before .before .before .before .before .before .before .before .before .before .before .before .before .before .before .before .before .before .before .before .before .before .before .before .before .pre .0) (c .before .before .before .before .before .before .before .before .before .before .before .before .before .before .before .before .before .before .before .before .before .before .before .before .before .before .before .before .before .before .pre .1) (c .before .before .before .before .before .before .before .before .before .before .before .before .before .before .before .before .before .before .before .before .before .before .before .before .before .before .before .before .before .before .pre .2) (c .before .before .before .before .before .before .before .before .before .before .before .before .before .before .before .before .before .before .before .before .before .before .before .before .before .before .before .counts-in .ensures) (c .before .before .before .before .before .before .before .before .before .before .before .before .before .before .before .before .before .before .before .before .before .before .before .before .before .before .vertex-word .ensures) (c .before .before .before .before .before .before .before .before .before .before .before .before .before .before .before .before .before .before .before .before .before .before .before .before .before .vertex-word2 .ensures) (c .before .before .before .before .before .before .before .before .before .before .before .before .before .before .before .before .before .before .before .before .before .before .before .wide .ensures) (c .before .before .before .before .before .before .before .before .before .before .before .before .before .before .before .before .before .before .before .before .before .before .put .ensures) (c .before .before .before .before .before .before .before .before .before .before .before .before .before .before .before .own-leaf .ensures) (c .before .before .before .before .before .before .before .before .before .before .before .wide2 .ensures) (c .before .before .before .before .before .before .before .before .before .before .lower .ensures) (c .before .before .before .before .before .before .before .before .bound-outside .result)
+search-on-requires c κs =
+    let at-bound-outside = c .before .before .before .before .before .before .before .before in
+    let at-wide2 = at-bound-outside .before .before .before in
+    let at-own-leaf = at-wide2 .before .before .before .before in
+    let at-put = at-own-leaf .before .before .before .before .before .before .before in
+    let at-vertex-word2 = at-put .before .before .before in
+    let start = at-vertex-word2 .before .before .before .before .before in
+    begun (start .args .mem .now) (start .args .x) (start .args .k) (start .args .dx .now) (start .args .keys .now) (start .args .waits .now) (start .pre .0) (start .pre .1) (start .pre .2) (at-vertex-word2 .before .before .counts-in .ensures) (at-vertex-word2 .before .vertex-word .ensures) (at-vertex-word2 .vertex-word2 .ensures) (at-put .before .wide .ensures) (at-put .put .ensures) (at-own-leaf .own-leaf .ensures) (at-wide2 .wide2 .ensures) (at-bound-outside .before .before .lower .ensures) (at-bound-outside .bound-outside .result)
 
 returns : tie.Need-returns
-returns c = (
-  c .before .before .search-on .ensures .0,
-  λ m fleet g room hx. c .before .before .search-on .ensures .1 m fleet (c .before .before .before .before .before .before .before .before .before .before .before .before .before .before .before .before .before .before .before .before .before .before .before .before .before .before .before .before .before .before .before .before .before .args .x) g hx
-      (begins _ _ _ _ _ _ (c .before .before .before .before .before .before .before .before .before .before .before .before .before .before .before .before .before .before .before .before .before .before .before .before .before .before .before .before .before .before .before .before .before .pre .0) (c .before .before .before .before .before .before .before .before .before .before .before .before .before .before .before .before .before .before .before .before .before .before .before .before .before .before .before .before .before .before .before .before .before .pre .1) (c .before .before .before .before .before .before .before .before .before .before .before .before .before .before .before .before .before .before .before .before .before .before .before .before .before .before .before .before .before .before .before .before .before .pre .2) (c .before .before .before .before .before .before .before .before .before .before .before .before .before .before .before .before .before .before .before .before .before .before .before .before .before .before .before .before .before .before .counts-in .ensures) (c .before .before .before .before .before .before .before .before .before .before .before .before .before .before .before .before .before .before .before .before .before .before .before .before .before .before .before .before .before .vertex-word .ensures) (c .before .before .before .before .before .before .before .before .before .before .before .before .before .before .before .before .before .before .before .before .before .before .before .before .before .before .before .before .vertex-word2 .ensures) (c .before .before .before .before .before .before .before .before .before .before .before .before .before .before .before .before .before .before .before .before .before .before .before .before .before .before .wide .ensures) (c .before .before .before .before .before .before .before .before .before .before .before .before .before .before .before .before .before .before .before .before .before .before .before .before .before .put .ensures) (c .before .before .before .before .before .before .before .before .before .before .before .before .before .before .before .before .before .before .own-leaf .ensures) (c .before .before .before .before .before .before .before .before .before .before .before .before .before .before .wide2 .ensures) (c .before .before .before .before .before .before .before .before .before .before .before .before .before .lower .ensures) (c .before .before .before .before .before .before .before .before .before .before .before .bound-outside .ensures) m fleet g room hx),
-)
+returns c =
+    let at-bound-outside = c .before .before .before .before .before .before .before .before .before .before .before in
+    let at-wide2 = at-bound-outside .before .before .before in
+    let at-own-leaf = at-wide2 .before .before .before .before in
+    let at-put = at-own-leaf .before .before .before .before .before .before .before in
+    let at-vertex-word2 = at-put .before .before .before in
+    let start = at-vertex-word2 .before .before .before .before .before in (
+      c .before .before .search-on .ensures .0,
+      λ m fleet g room hx. c .before .before .search-on .ensures .1 m fleet (start .args .x) g hx
+          (begins _ _ _ _ _ _ (start .pre .0) (start .pre .1) (start .pre .2) (at-vertex-word2 .before .before .counts-in .ensures) (at-vertex-word2 .before .vertex-word .ensures) (at-vertex-word2 .vertex-word2 .ensures) (at-put .before .wide .ensures) (at-put .put .ensures) (at-own-leaf .own-leaf .ensures) (at-wide2 .wide2 .ensures) (at-bound-outside .before .before .lower .ensures) (at-bound-outside .bound-outside .ensures) m fleet g room hx),
+    )
 
 pub search-at-spec : {M : Type 1} → statement M
 search-at-spec =

@@ -27,17 +27,25 @@ loop-holds : tie.Need-loop-holds Inv-loop μ-loop
 loop-holds c = (c .before .before .pre, refl, λ m fleet x g hx on. on)
 
 turn-requires : tie.Need-turn-requires Inv-loop μ-loop
-turn-requires c κs = c .before .before .before .before .before .before .before .before .before .before .loop .inv .0
+turn-requires c κs =
+    let at-loop = c .before .before .before .before .before .before .before .before .before .before in
+    at-loop .loop .inv .0
 
 loop-less : tie.Need-loop-less Inv-loop μ-loop
-loop-less c = less-left (c .before .before .before .before .before .before .before .before .before .before .before .before .before .loop .st .ended) (c .before .before .turn .result .ended) _ _ (not-true _ (c .before .before .before .before .before .before .before .before .before .before .before .if1 .taken)) (c .before .before .turn .ensures .shrunk .shrinks)
+loop-less c =
+    let at-if1 = c .before .before .before .before .before .before .before .before .before .before .before in
+    less-left (at-if1 .before .before .loop .st .ended) (c .before .before .turn .result .ended) _ _ (not-true _ (at-if1 .if1 .taken)) (c .before .before .turn .ensures .shrunk .shrinks)
 
 loop-again : tie.Need-loop-again Inv-loop μ-loop
-loop-again c = (
-  stands-still (c .before .before .before .before .before .before .before .before .before .before .before .before .before .loop .inv .0) (c .before .before .turn .ensures),
-  search needs,
-  on-and-on _ _ _ _ _ _ _ (c .before .before .before .before .before .before .before .before .before .before .before .before .before .before .before .before .args .s) _ _ _ _ _ (c .before .before .before .before .before .before .before .before .before .before .before .before .before .loop .st) _ _ _ _ _ (c .before .before .turn .result) (not-true _ (c .before .before .before .before .before .before .before .before .before .before .before .if1 .taken)) (c .before .before .before .before .before .before .before .before .before .before .before .before .before .loop .inv .2) (c .before .before .turn .ensures),
-)
+loop-again c =
+    let at-turn = c .before .before in
+    let at-if1 = at-turn .before .before .before .before .before .before .before .before .before in
+    let at-loop = at-if1 .before .before in
+    let start = at-loop .before .before .before in (
+      stands-still (at-loop .loop .inv .0) (at-turn .turn .ensures),
+      search needs,
+      on-and-on _ _ _ _ _ _ _ (start .args .s) _ _ _ _ _ (at-loop .loop .st) _ _ _ _ _ (at-turn .turn .result) (not-true _ (at-if1 .if1 .taken)) (at-loop .loop .inv .2) (at-turn .turn .ensures),
+    )
 
 same-length : tie.Need-same-length Inv-loop μ-loop
 same-length c = c .before .before .loop .inv .1

@@ -7,7 +7,9 @@ use Rattle.question.proofs.search_with.Statement.{statement}
 use Rattle.question.proofs.search_with.Tie as tie
 
 search-at-requires : tie.Need-search-at-requires
-search-at-requires c κs = (c .before .before .before .before .before .before .before .before .before .before .pre .0, c .before .before .before .before .before .before .before .before .before .before .pre .1, fresh-arrays (c .before .before .before .before .before .before .before .before .before .before .pre .2), fresh-in-order)
+search-at-requires c κs =
+    let start = c .before .before .before .before .before .before .before .before .before .before in
+    (start .pre .0, start .pre .1, fresh-arrays (start .pre .2), fresh-in-order)
 
 returns : tie.Need-returns
 returns c = c .before .before .search-at .ensures

@@ -10,16 +10,28 @@ give-up-requires : tie.Need-give-up-requires
 give-up-requires c κs = (c .before .before .before .pre .1, omega (arith, c .before .before .before .pre .0 .total))
 
 take-leaf-requires : tie.Need-take-leaf-requires
-take-leaf-requires c κs = (c .before .before .before .before .before .before .before .before .before .before .before .before .before .pre .0 .few, c .before .before .before .before .before .before .before .before .before .before .before .before .before .pre .0 .some, c .before .before .before .before .before .before .before .before .before .before .before .before .before .pre .0 .most, c .before .before .before .before .before .before .before .before .before .before .before .before .before .pre .0 .ordered)
+take-leaf-requires c κs =
+    let start = c .before .before .before .before .before .before .before .before .before .before .before .before .before in
+    (start .pre .0 .few, start .pre .0 .some, start .pre .0 .most, start .pre .0 .ordered)
 
 open-up-requires : tie.Need-open-up-requires
-open-up-requires c κs = omega (arith, c .before .before .before .before .before .before .before .before .before .before .before .before .before .pre .0 .total)
+open-up-requires c κs =
+    let start = c .before .before .before .before .before .before .before .before .before .before .before .before .before in
+    omega (arith, start .pre .0 .total)
 
 returns : tie.Need-returns
-returns c = leaf-goes _ _ _ _ _ _ _ (c .before .before .before .before .before .before .before .before .before .before .before .before .before .before .before .before .args .s) (c .before .before .before .before .before .before .before .before .before .before .before .before .before .before .before .before .pre .0) (c .before .before .before .before .before .before .before .before .before .before .before .before .before .before .before .before .args .at) (c .before .before .before .before .before .before .before .before .before .before .before .before .before .before .before .before .pre .1) (c .before .before .before .before .before .before .before .before .before .before .before .before .give-up .ensures .0) (c .before .before .before .before .before .before .before .before .before .before .before .before .give-up .ensures .1) (c .before .before .before .before .before .before .before .before .before .before .before .wide .ensures) (c .before .before .before .before .before .before .before .before .before .before .part-word .ensures) (c .before .before .before .before .before .before .before .before .before .if1 .taken) (c .before .before .take-leaf .ensures)
+returns c =
+    let at-if1 = c .before .before .before .before .before .before .before .before .before in
+    let at-give-up = at-if1 .before .before .before in
+    let start = at-give-up .before .before .before .before in
+    leaf-goes _ _ _ _ _ _ _ (start .args .s) (start .pre .0) (start .args .at) (start .pre .1) (at-give-up .give-up .ensures .0) (at-give-up .give-up .ensures .1) (at-if1 .before .before .wide .ensures) (at-if1 .before .part-word .ensures) (at-if1 .if1 .taken) (c .before .before .take-leaf .ensures)
 
 returns-2 : tie.Need-returns-2
-returns-2 c = part-goes _ _ _ _ _ _ _ (c .before .before .before .before .before .before .before .before .before .before .before .before .before .before .before .before .args .s) (c .before .before .before .before .before .before .before .before .before .before .before .before .before .before .before .before .pre .0) (c .before .before .before .before .before .before .before .before .before .before .before .before .before .before .before .before .args .at) (c .before .before .before .before .before .before .before .before .before .before .before .before .before .before .before .before .pre .1) (c .before .before .before .before .before .before .before .before .before .before .before .before .give-up .ensures .0) (c .before .before .before .before .before .before .before .before .before .before .before .before .give-up .ensures .1) (c .before .before .before .before .before .before .before .before .before .before .before .wide .ensures) (c .before .before .before .before .before .before .before .before .before .before .part-word .ensures) (c .before .before .before .before .before .before .before .before .before .if1 .left) (c .before .before .open-up .ensures .0) (c .before .before .open-up .ensures .1)
+returns-2 c =
+    let at-if1 = c .before .before .before .before .before .before .before .before .before in
+    let at-give-up = at-if1 .before .before .before in
+    let start = at-give-up .before .before .before .before in
+    part-goes _ _ _ _ _ _ _ (start .args .s) (start .pre .0) (start .args .at) (start .pre .1) (at-give-up .give-up .ensures .0) (at-give-up .give-up .ensures .1) (at-if1 .before .before .wide .ensures) (at-if1 .before .part-word .ensures) (at-if1 .if1 .left) (c .before .before .open-up .ensures .0) (c .before .before .open-up .ensures .1)
 
 pub take-waiting-spec : {M : Type 1} → statement M
 take-waiting-spec =

@@ -10,25 +10,38 @@ use Rattle.question.proofs.turn.Statement.{statement}
 use Rattle.question.proofs.turn.Tie as tie
 
 limit-of-requires : tie.Need-limit-of-requires
-limit-of-requires c κs = (c .before .before .before .before .before .before .before .before .before .before .before .pre .few, c .before .before .before .before .before .before .before .before .before .before .before .pre .some, c .before .before .before .before .before .before .before .before .before .before .before .pre .most)
+limit-of-requires c κs =
+    let start = c .before .before .before .before .before .before .before .before .before .before .before in
+    (start .pre .few, start .pre .some, start .pre .most)
 
 returns : tie.Need-returns
-returns c = turn-ends _ _ _ _ _ _ _ (c .before .before .before .before .before .before .before .before .before .before .before .before .before .before .args .s) (c .before .before .before .before .before .before .before .before .before .before .before .before .before .before .pre) (c .before .before .before .before .nearest-waiting2 .ensures) (c .before .before .limit-of .ensures (stampIn (c .before .before .before .before .before .before .before .before .before .before .before .before .before .before .args .mem .now) (countsIn (c .before .before .before .before .before .before .before .before .before .before .before .before .before .before .args .mem .now))) (c .before .before .before .before .before .before .before .before .before .before .before .before .before .before .args .vans .now) (omega (arith, c .before .before .before .before .before .before .before .before .before .before .before .before .before .before .pre .ordered .vans-length, c .before .before .before .before .before .before .before .before .before .before .before .before .before .before .pre .few, c .before .before .before .before .before .before .before .before .before .before .before .before .before .before .pre .most))) (c .before .lesser .ensures) (c .if2 .taken)
+returns c =
+    let at-nearest-waiting2 = c .before .before .before .before in
+    let start = at-nearest-waiting2 .before .before .before .before .before .before .before .before .before .before in
+    turn-ends _ _ _ _ _ _ _ (start .args .s) (start .pre) (at-nearest-waiting2 .nearest-waiting2 .ensures) (c .before .before .limit-of .ensures (stampIn (start .args .mem .now) (countsIn (start .args .mem .now))) (start .args .vans .now) (omega (arith, start .pre .ordered .vans-length, start .pre .few, start .pre .most))) (c .before .lesser .ensures) (c .if2 .taken)
 
 climb-requires : tie.Need-climb-requires
-climb-requires c κs = c .before .before .before .before .before .before .before .before .before .before .before .before .before .before .before .before .before .before .before .before .before .pre .total
+climb-requires c κs =
+    let start = c .before .before .before .before .before .before .before .before .before .before .before .before .before .before .before .before .before .before .before .before .before in
+    start .pre .total
 
 returns-2 : tie.Need-returns-2
-returns-2 c = turn-climbs _ _ _ _ _ _ _ (c .before .before .before .before .before .before .before .before .before .before .before .before .before .before .before .before .before .before .before .before .before .before .before .before .args .s) (c .before .before .before .before .before .before .before .before .before .before .before .before .before .before .before .before .before .before .before .before .before .before .before .before .pre) (c .before .before .before .before .before .before .before .before .before .before .before .before .before .before .nearest-waiting2 .ensures) (c .before .before .before .before .before .before .before .before .before .before .before .before .limit-of .ensures (stampIn (c .before .before .before .before .before .before .before .before .before .before .before .before .before .before .before .before .before .before .before .before .before .before .before .before .args .mem .now) (countsIn (c .before .before .before .before .before .before .before .before .before .before .before .before .before .before .before .before .before .before .before .before .before .before .before .before .args .mem .now))) (c .before .before .before .before .before .before .before .before .before .before .before .before .before .before .before .before .before .before .before .before .before .before .before .before .args .vans .now) (omega (arith, c .before .before .before .before .before .before .before .before .before .before .before .before .before .before .before .before .before .before .before .before .before .before .before .before .pre .ordered .vans-length, c .before .before .before .before .before .before .before .before .before .before .before .before .before .before .before .before .before .before .before .before .before .before .before .before .pre .few, c .before .before .before .before .before .before .before .before .before .before .before .before .before .before .before .before .before .before .before .before .before .before .before .before .pre .most))) (c .before .before .before .before .before .before .before .before .before .before .before .lesser .ensures) (c .before .before .before .before .before .before .before .before .before .before .if2 .left) (c .before .before .before .before .before .before .before .before .before .if3 .taken) (c .before .before .climb .ensures)
+returns-2 c =
+    let at-if3 = c .before .before .before .before .before .before .before .before .before in
+    let at-limit-of = at-if3 .before .before .before in
+    let start = at-limit-of .before .before .before .before .before .before .before .before .before .before .before .before in
+    turn-climbs _ _ _ _ _ _ _ (start .args .s) (start .pre) (at-limit-of .before .before .nearest-waiting2 .ensures) (at-limit-of .limit-of .ensures (stampIn (start .args .mem .now) (countsIn (start .args .mem .now))) (start .args .vans .now) (omega (arith, start .pre .ordered .vans-length, start .pre .few, start .pre .most))) (at-if3 .before .before .lesser .ensures) (at-if3 .before .if2 .left) (at-if3 .if3 .taken) (c .before .before .climb .ensures)
 
 take-waiting-requires : tie.Need-take-waiting-requires
-take-waiting-requires c κs = (
-  c .before .before .before .before .before .before .before .before .before .before .before .before .before .before .before .pre,
-  elim (c .before .before .before .before .before .before .before .before .if1 .came) [
-    | inl t ↦ omega (arith, t .9, t .3 .ensures .place (omega (arith, t .8 .left, c .before .before .before .before .before .before .before .before .before .before .before .before .before .before .before .good)) .1)
-    | inr t ↦ omega (arith, t .1, c .before .before .before .before .before .before .before .before .before .before .nearest-waiting .ensures .place (t .0 .left) .1)
-  ],
-)
+take-waiting-requires c κs =
+    let at-if1 = c .before .before .before .before .before .before .before .before in
+    let start = at-if1 .before .before .before .before .before .before .before in (
+      start .pre,
+      elim (at-if1 .if1 .came) [
+        | inl t ↦ omega (arith, t .9, t .3 .ensures .place (omega (arith, t .8 .left, start .good)) .1)
+        | inr t ↦ omega (arith, t .1, at-if1 .before .before .nearest-waiting .ensures .place (t .0 .left) .1)
+      ],
+    )
 
 returns-3 : tie.Need-returns-3
 returns-3 c = c .before .before .take-waiting .ensures

@@ -20,24 +20,30 @@ abbrev μ-loop : tie.MeasureT-loop
 
 loop-holds : tie.Need-loop-holds Inv-loop μ-loop
 loop-holds c =
-    let f : length (c .before .before .before .before .before .args .best .fars) ≡ 32 = search needs in
-    let v : length (c .before .before .before .before .before .args .best .vans) ≡ 32 = search needs in
-    (omega arith, write-none (c .before .before .before .before .before .args .mem .now) (c .before .before .counts-in .result) (c .before .before .before .before .before .args .best .fars) (c .before .before .before .before .before .args .best .vans) (c .before .before .before .before .before .args .best .len) (c .before .before .before .before .before .pre .0) f v (c .before .before .before .before .before .args .answer .now) (c .before .before .before .before .before .pre .1))
+    let start = c .before .before .before .before .before in
+    let f : length (start .args .best .fars) ≡ 32 = search needs in
+    let v : length (start .args .best .vans) ≡ 32 = search needs in
+    (omega arith, write-none (start .args .mem .now) (c .before .before .counts-in .result) (start .args .best .fars) (start .args .best .vans) (start .args .best .len) (start .pre .0) f v (start .args .answer .now) (start .pre .1))
 
 loop-again : tie.Need-loop-again Inv-loop μ-loop
 loop-again c =
-    let f : length (c .before .before .before .before .before .before .before .before .before .before .before .before .args .best .fars) ≡ 32 = search needs in
-    let v : length (c .before .before .before .before .before .before .before .before .before .before .before .before .args .best .vans) ≡ 32 = search needs in
-    (omega arith, write-more (c .before .before .before .before .before .before .before .before .before .before .before .before .args .mem .now) (c .before .before .before .before .before .before .before .before .before .counts-in .result) (c .before .before .before .before .before .before .before .before .before .before .before .before .args .best .fars) (c .before .before .before .before .before .before .before .before .before .before .before .before .args .best .vans) (c .before .before .before .before .before .before .before .before .before .before .before .before .args .best .len) (c .before .before .before .before .before .before .before .before .before .before .before .before .pre .0) f v (c .before .before .before .before .before .before .before .before .before .before .before .before .args .answer .now) (c .before .before .before .before .before .before .loop .i) (c .before .before .before .before .before .before .loop .inv .1) (c .before .before .before .before .before .loop-test .taken) (c .before .before .before .before .van-word .ensures) (c .before .before .put3 .ensures))
+    let start = c .before .before .before .before .before .before .before .before .before .before .before .before in
+    let f : length (start .args .best .fars) ≡ 32 = search needs in
+    let v : length (start .args .best .vans) ≡ 32 = search needs in
+    let at-van-word = c .before .before .before .before in
+    let at-counts-in = at-van-word .before .before .before .before .before in
+    (omega arith, write-more (start .args .mem .now) (at-counts-in .counts-in .result) (start .args .best .fars) (start .args .best .vans) (start .args .best .len) (start .pre .0) f v (start .args .answer .now) (at-van-word .before .before .loop .i) (at-van-word .before .before .loop .inv .1) (at-van-word .before .loop-test .taken) (at-van-word .van-word .ensures) (c .before .before .put3 .ensures))
 
 same-length : tie.Need-same-length Inv-loop μ-loop
 same-length c = c .before .loop .inv .1 .same-length
 
 returns : tie.Need-returns Inv-loop μ-loop
 returns c =
-    let f : length (c .before .before .before .before .before .before .before .args .best .fars) ≡ 32 = search needs in
-    let v : length (c .before .before .before .before .before .before .before .args .best .vans) ≡ 32 = search needs in
-    write-all (c .before .before .before .before .before .before .before .args .mem .now) (c .before .before .before .before .counts-in .result) (c .before .before .before .before .before .before .before .args .best .fars) (c .before .before .before .before .before .before .before .args .best .vans) (c .before .before .before .before .before .before .before .args .best .len) (c .before .before .before .before .before .before .before .pre .0) f v (c .before .before .before .before .before .before .before .args .answer .now) (c .before .loop .i) (c .before .before .before .before .counts-in .ensures) (c .before .loop .inv .1) (c .loop-test .left)
+    let at-counts-in = c .before .before .before .before in
+    let start = at-counts-in .before .before .before in
+    let f : length (start .args .best .fars) ≡ 32 = search needs in
+    let v : length (start .args .best .vans) ≡ 32 = search needs in
+    write-all (start .args .mem .now) (at-counts-in .counts-in .result) (start .args .best .fars) (start .args .best .vans) (start .args .best .len) (start .pre .0) f v (start .args .answer .now) (c .before .loop .i) (at-counts-in .counts-in .ensures) (c .before .loop .inv .1) (c .loop-test .left)
 
 pub write-list-spec : {M : Type 1} → statement M
 write-list-spec =
