@@ -14,10 +14,6 @@ pub struct BestList {
     pub len: usize,
 }
 
-impl BestList {
-    pub const MOST: usize = 32;
-}
-
 // The first of two vans, each with its distance, is listed before the other.
 pub fn comes_first(far: u32, van: u32, there: u32, rival: u32) -> bool
     ensures { λ r. ⌜ ((stampOf : ℕ → ℕ) → r ≡ listedBefore (listed stampOf far van) (listed stampOf there rival)) ⌝ }

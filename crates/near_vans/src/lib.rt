@@ -5,6 +5,8 @@ use best_list::limit_of;
 use cells::wide;
 use counts::Counts;
 use far_sums::far_sum;
+use layout::RoadRecord;
+use layout::VertexRecord;
 use places::counts_in;
 use places::road_at;
 use van_offers::offer_vans;
@@ -186,12 +188,12 @@ fn meet_all(
             return waiting;
         }
         let r = road_at(counts, link - 1);
-        if mem.len() < r + 4 {
+        if mem.len() < r + RoadRecord::WORDS {
             return GIVEN_UP;
         }
         let u = vertex_of(mem[r]);
-        let far = far_sum(near, mem[r + 2]);
-        link = mem[r + 3];
+        let far = far_sum(near, mem[r + RoadRecord::WEIGHT]);
+        link = mem[r + RoadRecord::NEXT];
         waiting = meet(u, far, waiting, at, labels, vertices);
         if ROOM < waiting {
             return GIVEN_UP;
@@ -236,11 +238,11 @@ fn search(
             };
         }
         let v = take(i, n, at, labels, vertices);
-        let link = vertex_word(mem, counts, v, 4);
+        let link = vertex_word(mem, counts, v, VertexRecord::VANS);
         if link != 0 {
             len = offer_vans(mem, counts, link, near, fars, vans, len, k);
         }
-        let first = vertex_word(mem, counts, v, 3);
+        let first = vertex_word(mem, counts, v, VertexRecord::INTO);
         n = meet_all(mem, counts, first, near, n - 1, at, labels, vertices);
         if ROOM < n {
             return Found {

@@ -3,8 +3,9 @@ use mathlib.Core.Bool.{cond}
 use mathlib.Core.List.{List, [], _∷_, _++_}
 use Prim.Native.Nat.{ℕ, zero, suc, _+_, _*_, _%_, min}
 use lib.Dec.{ltb}
-use Rattle.words.specs.Limits.{FAR}
+use Rattle.words.specs.Limits.{FAR, vans}
 use Rattle.words.specs.Lists.{word}
+use Rattle.layout.specs.Layout.{vertex·vans, van·offset, van·stamp, van·next, row·words, row·own, row·child}
 use Rattle.counts.specs.declared.Counts.{Counts}
 use Rattle.places.specs.Place.{vertexAddress, vanAddress}
 use Rattle.fleet.specs.Question.{Listed}
@@ -12,22 +13,22 @@ use Rattle.best_list.specs.Best.{listed}
 
 -- the stamp that a memory shows for a van
 abbrev pub stampIn : List ℕ → Counts → ℕ → ℕ
-stampIn mem counts van = word mem (vanAddress counts van + 3)
+stampIn mem counts van = word mem (vanAddress counts van + van·stamp)
 
 -- the vans of a list of at most n, which starts at a link: each at its offset beyond `near`
 unfoldable pub vanOffers : List ℕ → Counts → ℕ → ℕ → ℕ → List Listed
 vanOffers mem counts near zero link = []
 vanOffers mem counts near (suc n) zero = []
 vanOffers mem counts near (suc n) (suc van) =
-    listed (stampIn mem counts) (min (near + word mem (vanAddress counts van + 2)) FAR) van ∷ vanOffers mem counts near n (word mem (vanAddress counts van + 4))
+    listed (stampIn mem counts) (min (near + word mem (vanAddress counts van + van·offset)) FAR) van ∷ vanOffers mem counts near n (word mem (vanAddress counts van + van·next))
 
 -- the vertex of row i, where the rows start at `first`
 abbrev pub rowOwner : List ℕ → ℕ → ℕ → ℕ
-rowOwner mem first i = word mem (first + 4 * i + 2) % 65536
+rowOwner mem first i = word mem (first + row·words * i + row·own) % row·child
 
 -- the vans that head for a vertex at distance `near`, where it can reach
 unfoldable pub vertexOffers : List ℕ → Counts → ℕ → ℕ → List Listed
-vertexOffers mem counts v near = cond (ltb near FAR) (vanOffers mem counts near 1024 (word mem (vertexAddress counts v + 4))) []
+vertexOffers mem counts v near = cond (ltb near FAR) (vanOffers mem counts near vans (word mem (vertexAddress counts v + vertex·vans))) []
 
 -- those of the vertices of some rows, by their numbers
 unfoldable pub rowOffers : List ℕ → Counts → ℕ → List ℕ → List ℕ → List Listed

@@ -6,21 +6,24 @@ use cells::word;
 use counts::Counts;
 use far_sums::FAR;
 use far_sums::far_sum;
+use layout::RowRecord;
+use layout::VanRecord;
+use layout::VertexRecord;
 use places::van_at;
 use places::vertex_at;
 ghost use mathlib.Core.Path.{_≡_};
 ghost use Prim.Native.Nat.{_+_, _*_, _≤_, _<_, _^_};
 ghost use lib.ListN.{length, take};
+ghost use Rattle.words.specs.Limits.{vans as mostVans};
 ghost use Rattle.words.specs.Lists.{word};
+ghost use Rattle.layout.specs.Layout.{vertex·words, van·words};
 ghost use Rattle.places.specs.Place.{vertexAddress, vanAddress};
 ghost use Rattle.best_list.specs.Best.{entries, offeredAll, InOrder};
 ghost use Rattle.van_offers.specs.Offers.{stampIn, vanOffers, rowOffers};
 
-pub const MOST_VANS: u32 = 1024;
-
 // Word w of a van's record.
 pub fn van_word(mem: &[u32], counts: Counts, van: u32, w: usize) -> u32
-    requires { ⌜ w < 8 ⌝ }
+    requires { ⌜ w < van·words ⌝ }
     ensures { λ r. ⌜ r ≡ word (now (mem .entry)) (vanAddress counts van + w) ⌝ }
 {
     word(mem, van_at(counts, van) + w)
@@ -28,7 +31,7 @@ pub fn van_word(mem: &[u32], counts: Counts, van: u32, w: usize) -> u32
 
 // Word w of a vertex's record.
 pub fn vertex_word(mem: &[u32], counts: Counts, vertex: u32, w: usize) -> u32
-    requires { ⌜ w < 8 ⌝ }
+    requires { ⌜ w < vertex·words ⌝ }
     ensures { λ r. ⌜ r ≡ word (now (mem .entry)) (vertexAddress counts vertex + w) ⌝ }
 {
     word(mem, vertex_at(counts, vertex) + w)
@@ -46,21 +49,21 @@ pub fn offer_vans(
     k: usize,
 ) -> usize
     requires { ⌜ (len ≤ k) × (1 ≤ k) × (k ≤ 32) × InOrder (now fars) (now vans) len ⌝ }
-    ensures { λ r. ⌜ (r ≤ k) × InOrder (now (fars .exit)) (now (vans .exit)) r × (entries (stampIn (now (mem .entry)) counts) (now (fars .exit)) (now (vans .exit)) r ≡ offeredAll k (entries (stampIn (now (mem .entry)) counts) (now (fars .entry)) (now (vans .entry)) len) (vanOffers (now (mem .entry)) counts near 1024 first)) ⌝ }
+    ensures { λ r. ⌜ (r ≤ k) × InOrder (now (fars .exit)) (now (vans .exit)) r × (entries (stampIn (now (mem .entry)) counts) (now (fars .exit)) (now (vans .exit)) r ≡ offeredAll k (entries (stampIn (now (mem .entry)) counts) (now (fars .entry)) (now (vans .entry)) len) (vanOffers (now (mem .entry)) counts near mostVans first)) ⌝ }
 {
     if limit_of(fars, len, k) < near {
         return len;
     }
     let mut n = len;
     let mut link = first;
-    let mut left = MOST_VANS;
+    let mut left = VanRecord::VANS;
     while 0 < left {
         if link == 0 {
             return n;
         }
         let van = link - 1;
-        let far = far_sum(near, van_word(mem, counts, van, 2));
-        let next = van_word(mem, counts, van, 4);
+        let far = far_sum(near, van_word(mem, counts, van, VanRecord::OFFSET));
+        let next = van_word(mem, counts, van, VanRecord::NEXT);
         n = offer(fars, vans, n, k, far, van);
         link = next;
         left -= 1;
@@ -88,10 +91,10 @@ pub fn offer_rows(
     let mut t = 0;
     while t < count {
         let i = wide(word(rows, t));
-        let v = word(mem, first + 4 * i + 2) % 65536;
+        let v = word(mem, first + RowRecord::WORDS * i + RowRecord::OWN) % RowRecord::CHILD;
         let near = word(dx, wide(v));
         if near < FAR {
-            let link = vertex_word(mem, counts, v, 4);
+            let link = vertex_word(mem, counts, v, VertexRecord::VANS);
             list = offer_vans(mem, counts, link, near, fars, vans, list, k);
         }
         t += 1;
