@@ -25,7 +25,7 @@ use Rattle.answers.specs.Answered.{answered}
 use Rattle.road_lookup.specs.declared.Lookup.{Lookup}
 use Rattle.road_lookup.specs.declared.Lookup.the-variants.{Found, OtherWay, Neither}
 use Rattle.road_lookup.specs.Lookup.{RoadsKnown}
-use Rattle.road_lookup.specs.Answer.{lookupOf, LookedUp as InWords}
+use Rattle.road_lookup.specs.Answer.{lookupOf, LookupTells as InWords}
 use Rattle.road_lookup.proofs.Shown.{countsOf, counts-read, image-roads}
 
 -- the answer for what a lookup comes to

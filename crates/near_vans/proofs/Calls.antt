@@ -15,12 +15,12 @@ use Rattle.best_list.specs.Best.{entries, limitOf, offeredAll}
 use Rattle.van_offers.specs.Offers.{stampIn, vanOffers}
 use Rattle.van_offers.specs.Genuine.{Genuine, listOf}
 use Rattle.van_offers.proofs.Steps.{vans-end}
-use Rattle.near_vans.specs.Around.{Searching, Fresh, Started, Least, Taken, MetAll}
+use Rattle.near_vans.specs.Around.{SearchingAround, NothingTaken, Started, LeastLabel, Taken, MetAll}
 use Rattle.near_vans.proofs.Turns.{started, stopped, turned}
 
 -- what a search keeps
 abbrev pub Keeps : (mem : List ℕ) (x k : ℕ) (at labels vertices : List ℕ) (n : ℕ) (fars vans : List ℕ) (len : ℕ) → Type 0
-Keeps mem x k at labels vertices n fars vans len = (m : Map) (fleet : State) → Genuine m fleet mem → x < m .vertices → Searching m fleet x k at labels vertices n (listOf mem fars vans len)
+Keeps mem x k at labels vertices n fars vans len = (m : Map) (fleet : State) → Genuine m fleet mem → x < m .vertices → SearchingAround m fleet x k at labels vertices n (listOf mem fars vans len)
 
 -- its list is the answer
 abbrev pub Answers : (mem : List ℕ) (x k : ℕ) (fars vans : List ℕ) (len : ℕ) → Type 0
@@ -31,16 +31,16 @@ unfolding entries
 no-entries stampOf fars vans = refl
 
 module _ (mem : List ℕ) (x k : ℕ) (some : 1 ≤ k) where
-  pub begun : {at labels vertices at′ labels′ vertices′ : List ℕ} (fars vans : List ℕ) → Fresh at labels vertices → Started x at labels vertices at′ labels′ vertices′
+  pub begun : {at labels vertices at′ labels′ vertices′ : List ℕ} (fars vans : List ℕ) → NothingTaken at labels vertices → Started x at labels vertices at′ labels′ vertices′
       → Keeps mem x k at′ labels′ vertices′ 1 fars vans 0
   begun {at′ = at′} {labels′} {vertices′} fars vans fresh start m fleet g hx =
-      subst (Searching m fleet x k at′ labels′ vertices′ 1) (no-entries (stampIn mem (countsIn mem)) fars vans) (started g x hx k some fresh start)
+      subst (SearchingAround m fleet x k at′ labels′ vertices′ 1) (no-entries (stampIn mem (countsIn mem)) fars vans) (started g x hx k some fresh start)
 
   module _ {at labels vertices : List ℕ} {n : ℕ} (fars vans : List ℕ) (len : ℕ) (kept : Keeps mem x k at labels vertices n fars vans len) where
     pub none-waits : n ≡ 0 → Answers mem x k fars vans len
     none-waits none m fleet g hx = stopped g x hx k some (kept m fleet g hx) (λ i h. absurd (omega arith))
 
-    module _ {i near : ℕ} (least : Least labels n i) (near-is : near ≡ word labels i) where
+    module _ {i near : ℕ} (least : LeastLabel labels n i) (near-is : near ≡ word labels i) where
       pub all-farther : {limit : ℕ} → limit ≡ limitOf k (listOf mem fars vans len) → limit < near → Answers mem x k fars vans len
       all-farther is-limit beyond m fleet g hx = stopped g x hx k some (kept m fleet g hx) (λ j h. omega (arith, least .least j h, near-is, is-limit, beyond))
 
@@ -69,7 +69,7 @@ zeros (suc n) zero = refl
 zeros (suc n) (suc i) = zeros n i
 
 -- arrays as they are made
-pub fresh-arrays : Fresh (replicate 4096 0) (replicate 128 0) (replicate 128 0)
+pub fresh-arrays : NothingTaken (replicate 4096 0) (replicate 128 0) (replicate 128 0)
 fresh-arrays =
     record {
       at-length = length-replicate {A = ℕ} 4096 0;

@@ -14,7 +14,7 @@ use Rattle.roads.specs.Walk.{Walk, stay, go}
 use Rattle.roads.specs.Dist.{dist}
 use Rattle.roads.proofs.Trail.{Net}
 use Rattle.roads.proofs.Exact.{dist-exact}
-use Rattle.near_vans.specs.Around.{Reached, Around, Least}
+use Rattle.near_vans.specs.Around.{Reached, Around, LeastLabel}
 
 module _ {m : Map} (net : Net m) where
   -- whoever has a way to x that weighs less than each label has been taken
@@ -30,7 +30,7 @@ module _ {m : Map} (net : Net m) where
       ⊎-elim (λ taken. taken) (λ (i, hi, is, most). absurd (omega (arith, least i hi, most, less, dist-exact m net b x (net .to _ road) .least rest walk))) reached
 
   -- so the least label is its vertex's distance
-  pub least-exact : (x : ℕ) (at labels vertices : List ℕ) (n i : ℕ) → Around m x 0 (roadCount m) at labels vertices n → Least labels n i
+  pub least-exact : (x : ℕ) (at labels vertices : List ℕ) (n i : ℕ) → Around m x 0 (roadCount m) at labels vertices n → LeastLabel labels n i
       → (word labels i ≡ dist m (word vertices i) x) × (word labels i < FAR)
   least-exact x at labels vertices n i a l = (omega (arith, no-more, no-less (decLt (dist m v x) (word labels i))), omega (arith, near, no-less (decLt (dist m v x) (word labels i))))
     where

@@ -27,7 +27,7 @@ use Rattle.image.specs.Records.{roadRecord}
 use Rattle.places.specs.Place as place
 use Rattle.van_lists.proofs.Found.{Found, nothing, found, link-in}
 use Rattle.van_offers.proofs.Shown.{road-read}
-use Rattle.near_vans.specs.Around.{Reached, Around, Met, Opened, SameTaken}
+use Rattle.near_vans.specs.Around.{Reached, Around, Met, RoadsFollowed, SameTaken}
 use Rattle.near_vans.proofs.Meeting.{further, After, met}
 
 -- the first road into v of number `low` or a higher one
@@ -44,7 +44,7 @@ pub record Going (m : Map) (x v next n : ℕ) (before at labels vertices : List 
   pub around : Around m x v low at labels vertices n
   pub same : SameTaken before at
 
-module _ {m : Map} {s : State} {mem : List ℕ} {counts : Counts} {x v first near n₀ : ℕ} {at₀ labels₀ vertices₀ : List ℕ} (o : Opened m s mem counts x v first near n₀ at₀ labels₀ vertices₀) where
+module _ {m : Map} {s : State} {mem : List ℕ} {counts : Counts} {x v first near n₀ : ℕ} {at₀ labels₀ vertices₀ : List ℕ} (o : RoadsFollowed m s mem counts x v first near n₀ at₀ labels₀ vertices₀) where
   pub going-start : Going m x v first n₀ at₀ at₀ labels₀ vertices₀
   going-start = record { low = 0; within = omega arith; link-is = o .first-is; around = o .around; same = λ u. refl }
 

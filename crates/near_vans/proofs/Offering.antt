@@ -24,12 +24,12 @@ use Rattle.van_offers.specs.Offers.{vanOffers}
 use Rattle.van_offers.specs.Genuine.{Genuine}
 use Rattle.van_offers.proofs.Heading.{Comer, offers-say, offers-have, offers-distinct}
 use Rattle.van_offers.proofs.Comers.{comers, comer-says, comer-has, comer-near}
-use Rattle.near_vans.specs.Around.{vanHead, isOffered}
+use Rattle.near_vans.specs.Around.{vanHead, isOfferedNear}
 
 module _ {m : Map} {s : State} {mem : List ℕ} (g : Genuine m s mem) (x : ℕ) where
   -- a van that can come has been offered if the vertex that it heads for has been taken
-  pub offered-is : (at : List ℕ) (l : Listed) (c : Comer g x l) → isOffered m s at l ≡ eqb (word at (headOf m (c .van))) 255
-  unfolding isOffered
+  pub offered-is : (at : List ℕ) (l : Listed) (c : Comer g x l) → isOfferedNear m s at l ≡ eqb (word at (headOf m (c .van))) 255
+  unfolding isOfferedNear
   offered-is at l c = ap (λ (u : ℕ). eqb (word at u) 255) (ap (λ (i : ℕ). vanHead m (slotOf s i)) (ap (λ (a : Listed). a .van) (c .same)) ∙ ap (vanHead m) (c .there))
 
   module _ (v near : ℕ) (hv : v < m .vertices) (near-is : near ≡ dist m v x) (reaches : near < FAR) (k : ℕ) (some : 1 ≤ k) (at at′ : List ℕ) (not-taken : word at v ≢ 255) (now-taken : word at′ v ≡ 255)
@@ -45,24 +45,24 @@ module _ {m : Map} {s : State} {mem : List ℕ} (g : Genuine m s mem) (x : ℕ) 
     unfolding offers
     comes-offered e c heads = Memᴰ·cast (c .same) (offers-have g x v near reaches near-is hv (c .place) (c .van) (c .there) (c .free) heads)
 
-    pub vertex-best : offeredAll k (take k (sorted (keep (isOffered m s at) (comingFrom m x 0 (s .vans))))) (vanOffers mem (countsIn mem) near 1024 (word mem (vertexAddress (countsIn mem) v + 4)))
-        ≡ take k (sorted (keep (isOffered m s at′) (comingFrom m x 0 (s .vans))))
+    pub vertex-best : offeredAll k (take k (sorted (keep (isOfferedNear m s at) (comingFrom m x 0 (s .vans))))) (vanOffers mem (countsIn mem) near 1024 (word mem (vertexAddress (countsIn mem) v + 4)))
+        ≡ take k (sorted (keep (isOfferedNear m s at′) (comingFrom m x 0 (s .vans))))
     unfolding offers
     vertex-best =
-        offered-more k some (comers g x) (coming-distinct m x 0 (s .vans)) (comer-near g x) (isOffered m s at) (isOffered m s at′) offers
+        offered-more k some (comers g x) (coming-distinct m x 0 (s .vans)) (comer-near g x) (isOfferedNear m s at) (isOfferedNear m s at′) offers
         (offers-distinct g x v near reaches near-is hv)
         (λ e h. let (c, heads) = offers-come e h in (comer-has g x e c, offered-is at e c ∙ ne-eqb (word at (headOf m (c .van))) 255 (λ taken. not-taken (ap (word at) (sym heads) ∙ taken))))
         (λ l h e. says l (comer-says g x l h) e)
         (λ l h e. has l (comer-says g x l h) e)
       where
-        says : (l : Listed) (c : Comer g x l) → isOffered m s at′ l ≡ true → (isOffered m s at l ≡ true) ⊎ List·Memᴰ l offers
+        says : (l : Listed) (c : Comer g x l) → isOfferedNear m s at′ l ≡ true → (isOfferedNear m s at l ≡ true) ⊎ List·Memᴰ l offers
         says l c e =
             elim (ℕ-discrete (headOf m (c .van)) v) [
               | yes own ↦ inr (comes-offered l c own)
               | no other ↦ inl (offered-is at l c ∙ eq-eqb (word at (headOf m (c .van))) 255 (others (headOf m (c .van)) other .0 (eqb-true (word at′ (headOf m (c .van))) 255 (sym (offered-is at′ l c) ∙ e))))
             ]
 
-        has : (l : Listed) (c : Comer g x l) → (isOffered m s at l ≡ true) ⊎ List·Memᴰ l offers → isOffered m s at′ l ≡ true
+        has : (l : Listed) (c : Comer g x l) → (isOfferedNear m s at l ≡ true) ⊎ List·Memᴰ l offers → isOfferedNear m s at′ l ≡ true
         has l c (inr h) =
             let (d, heads) = offers-come l h in
             offered-is at′ l d ∙ eq-eqb (word at′ (headOf m (d .van))) 255 (ap (word at′) heads ∙ now-taken)

@@ -10,28 +10,28 @@ use native.Mathlib.Omega.{arith}
 use lib.Dec.{eqb}
 use borrow.Author.Tests.{eqb-true, eqb-false}
 use Rattle.words.specs.Lists.{word}
-use Rattle.near_vans.specs.Around.{Least, WaitsAt}
+use Rattle.near_vans.specs.Around.{LeastLabel, WaitsAt}
 
 -- The least label.
 
-pub least-first : (labels : List ℕ) → Least labels 1 0
+pub least-first : (labels : List ℕ) → LeastLabel labels 1 0
 least-first labels = record { is-place = omega arith; least = λ i h. omega (arith, ap (word labels) (first i h)) }
   where
     first : (i : ℕ) → i < 1 → 0 ≡ i
     first i h = omega arith
 
-module _ (labels : List ℕ) (i place low : ℕ) (so-far : Least labels i place) (is-low : low ≡ word labels place) where
+module _ (labels : List ℕ) (i place low : ℕ) (so-far : LeastLabel labels i place) (is-low : low ≡ word labels place) where
   before-or-here : (p : ℕ) → p < i + 1 → (P : Type 0) → (p < i → P) → (p ≡ i → P) → P
   before-or-here p hp P before here = elim (decLt p i) [ yes less ↦ before less | no past ↦ here (omega arith) ]
 
-  pub least-less : word labels i < low → Least labels (i + 1) i
+  pub least-less : word labels i < low → LeastLabel labels (i + 1) i
   least-less less =
       record {
         is-place = omega arith;
         least = λ p hp. before-or-here p hp (word labels i ≤ word labels p) (λ h. omega (arith, so-far .least p h)) (λ same. omega (arith, ap (word labels) same));
       }
 
-  pub least-same : low ≤ word labels i → Least labels (i + 1) place
+  pub least-same : low ≤ word labels i → LeastLabel labels (i + 1) place
   least-same more =
       record {
         is-place = omega (arith, so-far .is-place);

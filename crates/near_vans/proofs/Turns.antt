@@ -33,7 +33,7 @@ use Rattle.van_offers.specs.Genuine.{Genuine}
 use Rattle.van_offers.proofs.Shown.{vertex-read}
 use Rattle.van_offers.proofs.Heading.{Comer, head-below}
 use Rattle.van_offers.proofs.Comers.{comer-far, settled}
-use Rattle.near_vans.specs.Around.{Around, vanHead, isOffered, Searching, Fresh, Started, Least, Taken, Opened, SameTaken, MetAll}
+use Rattle.near_vans.specs.Around.{Around, vanHead, isOfferedNear, SearchingAround, NothingTaken, Started, LeastLabel, Taken, RoadsFollowed, SameTaken, MetAll}
 use Rattle.near_vans.proofs.Exact.{nearer-taken, least-exact}
 use Rattle.near_vans.proofs.Taking.{now-taken, not-taken, others-as-before, taken-around}
 use Rattle.near_vans.proofs.Offering.{offered-is, vertex-best}
@@ -46,7 +46,7 @@ module _ {m : Map} {s : State} {mem : List ℕ} (g : Genuine m s mem) (x : ℕ) 
   few = g .sound .vertices .1
 
   -- The start: x waits alone.
-  module _ {at labels vertices at′ labels′ vertices′ : List ℕ} (fresh : Fresh at labels vertices) (t : Started x at labels vertices at′ labels′ vertices′) where
+  module _ {at labels vertices at′ labels′ vertices′ : List ℕ} (fresh : NothingTaken at labels vertices) (t : Started x at labels vertices at′ labels′ vertices′) where
     x-is : x % 4096 ≡ x
     x-is = mod-eq-of-lt (omega (arith, few))
 
@@ -75,8 +75,8 @@ module _ {m : Map} {s : State} {mem : List ℕ} (g : Genuine m s mem) (x : ℕ) 
         zero-is : (j : ℕ) → j < 1 → 0 ≡ j
         zero-is j below = omega arith
 
-    pub started : Searching m s x k at′ labels′ vertices′ 1 []
-    unfolding sorted isOffered
+    pub started : SearchingAround m s x k at′ labels′ vertices′ 1 []
+    unfolding sorted isOfferedNear
     started =
         record {
           around =
@@ -91,24 +91,24 @@ module _ {m : Map} {s : State} {mem : List ℕ} (g : Genuine m s mem) (x : ℕ) 
                 start = inr (0, omega arith, vertex-first, omega (arith, label-first));
                 reached = λ j hj taken looked. absurd (none-taken (roadAt m j .to) taken);
               };
-          list = sym (ap (λ (l : List Listed). take k (sorted l)) (keep-none (isOffered m s at′) (comingFrom m x 0 (s .vans)) (λ l h. none-offered l)) ∙ take-nil k);
+          list = sym (ap (λ (l : List Listed). take k (sorted l)) (keep-none (isOfferedNear m s at′) (comingFrom m x 0 (s .vans)) (λ l h. none-offered l)) ∙ take-nil k);
         }
       where
-        none-offered : (l : Listed) → isOffered m s at′ l ≡ false
+        none-offered : (l : Listed) → isOfferedNear m s at′ l ≡ false
         none-offered l = ne-eqb (word at′ (vanHead m (slotOf s (l .van)))) 255 (none-taken (vanHead m (slotOf s (l .van))))
 
-  module _ {at labels vertices : List ℕ} {n : ℕ} {found : List Listed} (st : Searching m s x k at labels vertices n found) where
+  module _ {at labels vertices : List ℕ} {n : ℕ} {found : List Listed} (st : SearchingAround m s x k at labels vertices n found) where
     -- The end: all that waits is farther than the limit.
     pub stopped : ((i : ℕ) → i < n → limitOf k found < word labels i) → found ≡ nearest m s x k
-    stopped beyond = settled g x k some (isOffered m s at) (st .list) rest
+    stopped beyond = settled g x k some (isOfferedNear m s at) (st .list) rest
       where
-        rest : (l : Listed) → Comer g x l → (isOffered m s at l ≡ true) ⊎ (limitOf k found < l .distance)
+        rest : (l : Listed) → Comer g x l → (isOfferedNear m s at l ≡ true) ⊎ (limitOf k found < l .distance)
         rest l c = by (decLt (limitOf k found) (dist m v x))
           where
             v : ℕ
             v = headOf m (c .van)
 
-            by : Dec (limitOf k found < dist m v x) → (isOffered m s at l ≡ true) ⊎ (limitOf k found < l .distance)
+            by : Dec (limitOf k found < dist m v x) → (isOfferedNear m s at l ≡ true) ⊎ (limitOf k found < l .distance)
             by (yes far) = inr (omega (arith, far, comer-far g x l c))
             by (no near) =
                 inl
@@ -119,7 +119,7 @@ module _ {m : Map} {s : State} {mem : List ℕ} (g : Genuine m s mem) (x : ℕ) 
                 (omega (arith, near))))
 
     -- A turn: the vertex with the least label is taken.
-    module _ (i near : ℕ) (least : Least labels n i) (near-is : near ≡ word labels i) {at′ labels′ vertices′ : List ℕ} {v : ℕ} (t : Taken i n at labels vertices at′ labels′ vertices′ v) where
+    module _ (i near : ℕ) (least : LeastLabel labels n i) (near-is : near ≡ word labels i) {at′ labels′ vertices′ : List ℕ} {v : ℕ} (t : Taken i n at labels vertices at′ labels′ vertices′ v) where
       hv : v < m .vertices
       hv = omega (arith, t .vertex-is, st .around .is-vertex i (least .is-place))
 
@@ -131,7 +131,7 @@ module _ {m : Map} {s : State} {mem : List ℕ} (g : Genuine m s mem) (x : ℕ) 
       module _ {counts : Counts} (counts-are : counts ≡ countsIn mem) {link first : ℕ} (link-is : link ≡ word mem (vertexAddress counts v + 4)) (first-is : first ≡ word mem (vertexAddress counts v + 3)) {found′ : List Listed}
           (found-are : found′ ≡ offeredAll k found (vanOffers mem counts near 1024 link)) {at″ labels″ vertices″ : List ℕ} {n′ : ℕ}
           (met : MetAll mem counts first near (n - 1) at′ labels′ vertices′ at″ labels″ vertices″ n′) (most : n′ ≤ 128) where
-        opened : Opened m s mem counts x v first near (n - 1) at′ labels′ vertices′
+        opened : RoadsFollowed m s mem counts x v first near (n - 1) at′ labels′ vertices′
         unfolding vertexRecord
         opened =
             record {
@@ -149,18 +149,18 @@ module _ {m : Map} {s : State} {mem : List ℕ} (g : Genuine m s mem) (x : ℕ) 
         after : Around m x v (roadCount m) at″ labels″ vertices″ n′ × SameTaken at′ at″
         after = met most m s x v opened
 
-        list-now : found′ ≡ take k (sorted (keep (isOffered m s at′) (comingFrom m x 0 (s .vans))))
+        list-now : found′ ≡ take k (sorted (keep (isOfferedNear m s at′) (comingFrom m x 0 (s .vans))))
         list-now =
             found-are
             ∙ (λ j. offeredAll k (st .list j) (vanOffers mem (counts-are j) near 1024 ((link-is ∙ ap (λ (c : Counts). word mem (vertexAddress c v + 4)) counts-are) j)))
             ∙ vertex-best g x v near hv (exact .0) (exact .1) k some at at′ (not-taken few (st .around) i (least .is-place) t) (now-taken few (st .around) i (least .is-place) t)
             (others-as-before few (st .around) i (least .is-place) t)
 
-        same-offered : (l : Listed) → isOffered m s at′ l ≡ isOffered m s at″ l
-        unfolding isOffered
+        same-offered : (l : Listed) → isOfferedNear m s at′ l ≡ isOfferedNear m s at″ l
+        unfolding isOfferedNear
         same-offered l = sym (after .1 (vanHead m (slotOf s (l .van))))
 
-        pub turned : Searching m s x k at″ labels″ vertices″ n′ found′
+        pub turned : SearchingAround m s x k at″ labels″ vertices″ n′ found′
         turned =
             record {
               around =
@@ -175,5 +175,5 @@ module _ {m : Map} {s : State} {mem : List ℕ} (g : Genuine m s mem) (x : ℕ) 
                     start = after .0 .start;
                     reached = λ j hj taken looked. after .0 .reached j hj taken (λ same. hj);
                   };
-              list = list-now ∙ ap (λ (l : List Listed). take k (sorted l)) (keep-same (isOffered m s at′) (isOffered m s at″) (comingFrom m x 0 (s .vans)) (λ l h. same-offered l));
+              list = list-now ∙ ap (λ (l : List Listed). take k (sorted l)) (keep-same (isOfferedNear m s at′) (isOfferedNear m s at″) (comingFrom m x 0 (s .vans)) (λ l h. same-offered l));
             }

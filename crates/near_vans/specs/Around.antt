@@ -42,18 +42,18 @@ vanHead m absent = 0
 vanHead m (present v) = headOf m v
 
 -- it was taken
-unfoldable pub isOffered : Map → State → List ℕ → Listed → Bool
-isOffered m s at l = eqb (word at (vanHead m (slotOf s (l .van)))) 255
+unfoldable pub isOfferedNear : Map → State → List ℕ → Listed → Bool
+isOfferedNear m s at l = eqb (word at (vanHead m (slotOf s (l .van)))) 255
 
 -- a search between two turns: the list holds the vans of the vertices taken
-pub record Searching (m : Map) (s : State) (x k : ℕ) (at labels vertices : List ℕ) (n : ℕ) (found : List Listed) : Type 0 where
+pub record SearchingAround (m : Map) (s : State) (x k : ℕ) (at labels vertices : List ℕ) (n : ℕ) (found : List Listed) : Type 0 where
   pub around : Around m x 0 (roadCount m) at labels vertices n
-  pub list : found ≡ take k (sorted (keep (isOffered m s at) (comingFrom m x 0 (s .vans))))
+  pub list : found ≡ take k (sorted (keep (isOfferedNear m s at) (comingFrom m x 0 (s .vans))))
 
 -- The functions of the search.
 
 -- arrays that nothing was written to
-pub record Fresh (at labels vertices : List ℕ) : Type 0 where
+pub record NothingTaken (at labels vertices : List ℕ) : Type 0 where
   pub at-length : length at ≡ 4096
   pub nothing : (v : ℕ) → word at v ≡ 0
   pub labels-length : length labels ≡ 128
@@ -66,7 +66,7 @@ pub record Started (x : ℕ) (at labels vertices at′ labels′ vertices′ : L
   pub vertices-are : vertices′ ≡ set vertices 0 (x % 4096)
 
 -- place r has the least of n labels
-pub record Least (labels : List ℕ) (n r : ℕ) : Type 0 where
+pub record LeastLabel (labels : List ℕ) (n r : ℕ) : Type 0 where
   pub is-place : r < n
   pub least : (i : ℕ) → i < n → word labels r ≤ word labels i
 
@@ -92,7 +92,7 @@ pub data Met (u far n : ℕ) (at labels vertices at′ labels′ vertices′ : L
   no-room : n′ ≡ 129 → Met u far n at labels vertices at′ labels′ vertices′ n′
 
 -- v was taken at its distance, and none of the roads into it has been looked at
-pub record Opened (m : Map) (s : State) (mem : List ℕ) (counts : Counts) (x v first near n : ℕ) (at labels vertices : List ℕ) : Type 0 where
+pub record RoadsFollowed (m : Map) (s : State) (mem : List ℕ) (counts : Counts) (x v first near n : ℕ) (at labels vertices : List ℕ) : Type 0 where
   pub genuine : Genuine m s mem
   pub counts-are : counts ≡ countsIn mem
   pub is-vertex : v < m .vertices
@@ -110,5 +110,5 @@ SameTaken at at′ = (u : ℕ) → eqb (word at′ u) 255 ≡ eqb (word at u) 25
 -- the roads into a vertex have been looked at, where no more than 128 wait now
 abbrev pub MetAll : (mem : List ℕ) (counts : Counts) (first near n : ℕ) (at labels vertices at′ labels′ vertices′ : List ℕ) (n′ : ℕ) → Type 0
 MetAll mem counts first near n at labels vertices at′ labels′ vertices′ n′ =
-    n′ ≤ 128 → (m : Map) (s : State) (x v : ℕ) → Opened m s mem counts x v first near n at labels vertices
+    n′ ≤ 128 → (m : Map) (s : State) (x v : ℕ) → RoadsFollowed m s mem counts x v first near n at labels vertices
     → Around m x v (roadCount m) at′ labels′ vertices′ n′ × SameTaken at at′

@@ -22,7 +22,7 @@ ghost use Rattle.fleet.specs.State.{State};
 ghost use Rattle.fleet.specs.Question.{nearest};
 ghost use Rattle.best_list.specs.Best.{InOrder};
 ghost use Rattle.van_offers.specs.Genuine.{Genuine, listOf, listIn};
-ghost use Rattle.near_vans.specs.Around.{Fresh, Started, Least, Taken, WaitsAt, Met, MetAll};
+ghost use Rattle.near_vans.specs.Around.{NothingTaken, Started, LeastLabel, Taken, WaitsAt, Met, MetAll};
 
 // A search's list, and whether it is the answer.
 pub struct Near {
@@ -82,7 +82,7 @@ fn start(x: u32, at: &mut [u8; 4096], labels: &mut [u32; 128], vertices: &mut [u
 // The place of the least label.
 fn least(labels: &[u32; 128], n: usize) -> usize
     requires { ⌜ (1 ≤ n) × (n ≤ 128) ⌝ }
-    ensures { λ r. ⌜ Least (now (labels .entry)) n r ⌝ }
+    ensures { λ r. ⌜ LeastLabel (now (labels .entry)) n r ⌝ }
 {
     let mut place = 0;
     let mut low = labels[0];
@@ -214,7 +214,7 @@ fn search(
     fars: &mut [u32; 32],
     vans: &mut [u32; 32],
 ) -> Found
-    requires { ⌜ (1 ≤ k) × (k ≤ 32) × Fresh (now at) (now labels) (now vertices) × InOrder (now fars) (now vans) 0 ⌝ }
+    requires { ⌜ (1 ≤ k) × (k ≤ 32) × NothingTaken (now at) (now labels) (now vertices) × InOrder (now fars) (now vans) 0 ⌝ }
     ensures { λ r. ⌜ (r .len ≤ k) × ((m : Map) (fleet : State) → Genuine m fleet (now (mem .entry)) → x < m .vertices → r .done ≡ true → listOf (now (mem .entry)) (now (fars .exit)) (now (vans .exit)) (r .len) ≡ nearest m fleet x k) ⌝ }
 {
     let counts = counts_in(mem);

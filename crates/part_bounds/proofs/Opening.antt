@@ -17,7 +17,7 @@ use Rattle.cells.specs.Lowered.{lowered}
 use Rattle.listing.specs.Lists.{Among}
 use Rattle.layout.specs.Layout.{partWord}
 use Rattle.part_words.specs.Part.{rowsIn}
-use Rattle.row_lists.specs.Rows.{ownerAt, childAt, belowAt, nearAt, Apart, isKnown, isAsked, AskedRow, Looked}
+use Rattle.row_lists.specs.Rows.{ownerAt, childAt, belowAt, nearAt, Apart, isKnown, isAsked, AskedRow, RowsLooked}
 use Rattle.row_distances.specs.Distances.{Closer}
 use Rattle.row_distances.proofs.Relaxing.{closer-named}
 use Rattle.part_keys.specs.Keys.{keyOf, Spread}
@@ -61,7 +61,7 @@ pub not-false : (b : Bool) → not b ≡ false → b ≡ true
 not-false true e = refl
 not-false false e = sym e
 
-module _ (all : Bool) {mem : List ℕ} {first : ℕ} {dx : List ℕ} {size : ℕ} {places near : List ℕ} {known : ℕ} {asked : List ℕ} {count : ℕ} (l : Looked mem first dx (isAsked all mem first dx) size places near known asked count)
+module _ (all : Bool) {mem : List ℕ} {first : ℕ} {dx : List ℕ} {size : ℕ} {places near : List ℕ} {known : ℕ} {asked : List ℕ} {count : ℕ} (l : RowsLooked mem first dx (isAsked all mem first dx) size places near known asked count)
     (apart : Apart mem first size) where
   -- a row that is asked for has no distance, and a known one has
   asked-far : (t : ℕ) → t < count → FAR ≤ nearAt mem first dx (word asked t)
@@ -155,7 +155,7 @@ module _ (all : Bool) {mem : List ℕ} {first : ℕ} {dx : List ℕ} {size : ℕ
           (lowered-where dx′ (ownerAt mem first i) way (ownerAt mem first r))
 
 -- The rows of two lists have given keys, and no other has one to give.
-module _ {mem : List ℕ} {first : ℕ} (all : Bool) {dx : List ℕ} {size : ℕ} {places near : List ℕ} {known : ℕ} {asked : List ℕ} {count : ℕ} (l : Looked mem first dx (isAsked all mem first dx) size places near known asked count)
+module _ {mem : List ℕ} {first : ℕ} (all : Bool) {dx : List ℕ} {size : ℕ} {places near : List ℕ} {known : ℕ} {asked : List ℕ} {count : ℕ} (l : RowsLooked mem first dx (isAsked all mem first dx) size places near known asked count)
     {dx′ : List ℕ} {keys waits : List ℕ} {n : ℕ} {keys₁ waits₁ : List ℕ} {n₁ : ℕ} {keys₂ waits₂ : List ℕ} {n₂ : ℕ}
     (s : Spread mem first dx′ (Among places known) keys waits n keys₁ waits₁ n₁) (s₂ : Spread mem first dx′ (Among asked count) keys₁ waits₁ n₁ keys₂ waits₂ n₂) where
   -- a row that has a key to give is known, or is asked for

@@ -15,7 +15,7 @@ ghost use Prim.Native.Nat.{_+_, _*_, _≤_, _<_, _^_};
 ghost use lib.ListN.{length};
 ghost use Rattle.layout.specs.Layout.{row·words};
 ghost use Rattle.listing.specs.Lists.{Among};
-ghost use Rattle.row_lists.specs.Rows.{Fits, Apart, Looked, isAsked};
+ghost use Rattle.row_lists.specs.Rows.{Fits, Apart, RowsLooked, isAsked};
 ghost use Rattle.row_distances.specs.Distances.{Closer};
 ghost use Rattle.part_keys.specs.Keys.{farCount, Spread};
 ghost use Rattle.part_bounds.specs.Bounds.{OpenedUp};
@@ -36,7 +36,7 @@ fn relax_spread(
     waits: &mut [u32],
     n: usize,
 ) -> usize
-    requires { ⌜ (first < 2 ^ 32) × (table < 2 ^ 32) × (size ≤ 128) × (first + row·words * size ≤ length (now mem)) × (table + size * size ≤ length (now mem)) × ((all : Bool) × Looked (now mem) first (now dx) (isAsked all (now mem) first (now dx)) size (now places) (now near) known (now asked) count) × (farCount (now keys) + n ≤ 512) × (length (now waits) ≡ 512) ⌝ }
+    requires { ⌜ (first < 2 ^ 32) × (table < 2 ^ 32) × (size ≤ 128) × (first + row·words * size ≤ length (now mem)) × (table + size * size ≤ length (now mem)) × ((all : Bool) × RowsLooked (now mem) first (now dx) (isAsked all (now mem) first (now dx)) size (now places) (now near) known (now asked) count) × (farCount (now keys) + n ≤ 512) × (length (now waits) ≡ 512) ⌝ }
     ensures { λ r. ⌜ (farCount (now (keys .exit)) + r ≤ farCount (now (keys .entry)) + n) × (Apart (now (mem .entry)) first size → Closer (now (mem .entry)) first table size (now (dx .entry)) (Among (now (asked .entry)) count) (now (dx .exit)) × Spread (now (mem .entry)) first (now (dx .exit)) (Among (now (asked .entry)) count) (now (keys .entry)) (now (waits .entry)) n (now (keys .exit)) (now (waits .exit)) r) ⌝ }
 {
     let end = first + RowRecord::WORDS * size;

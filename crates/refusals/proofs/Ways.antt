@@ -12,7 +12,7 @@ use Rattle.fleet.specs.declared.Change.{Change}
 use Rattle.van_lists.specs.declared.VanWords.{VanWords}
 use Rattle.road_lookup.specs.declared.Lookup.{Lookup}
 use Rattle.road_lookup.specs.declared.Lookup.the-variants.{Found}
-use Rattle.road_lookup.specs.Answer.{LookedUp}
+use Rattle.road_lookup.specs.Answer.{LookupTells}
 use Rattle.refusals.specs.declared.Verdict.{Verdict}
 use Rattle.refusals.specs.declared.Verdict.the-variants.{Refuse, Stand}
 use Rattle.refusals.specs.Verdict.{deskOf, weightIn, placing, OnRoad, HasVerdict}
@@ -49,7 +49,7 @@ module _ (mem : List ℕ) (counts : Counts) where
       within-weight near = rw (is, le-ltb (weightIn mem counts road) offset (omega (arith, read)))
 
   -- the road is looked up
-  pub on-road : (u v : ℕ) (by : Lookup → Verdict) (verdict : Verdict) (road : Lookup) → LookedUp mem counts u v road → verdict ≡ by road → OnRoad mem counts u v by verdict
+  pub on-road : (u v : ℕ) (by : Lookup → Verdict) (verdict : Verdict) (road : Lookup) → LookupTells mem counts u v road → verdict ≡ by road → OnRoad mem counts u v by verdict
   on-road u v by verdict road found e = record { road = road; found = found; is = e }
 
 -- the verdict by the kind of the change

@@ -17,7 +17,7 @@ use Rattle.van_lists.specs.declared.VanWords.{VanWords}
 use Rattle.van_lists.specs.Slot.{standingWords}
 use Rattle.road_lookup.specs.declared.Lookup.{Lookup}
 use Rattle.road_lookup.specs.declared.Lookup.the-variants.{Found, OtherWay, Neither}
-use Rattle.road_lookup.specs.Answer.{LookedUp}
+use Rattle.road_lookup.specs.Answer.{LookupTells}
 use Rattle.refusals.specs.declared.Verdict.{Verdict}
 use Rattle.refusals.specs.declared.Verdict.the-variants.{Refuse, Stand}
 
@@ -64,7 +64,7 @@ releasing old desk =
 -- a verdict on a road that is looked up: `by` is what the lookup comes to
 pub record OnRoad (mem : List ℕ) (counts : Counts) (u v : ℕ) (by : Lookup → Verdict) (verdict : Verdict) : Type 0 where
   pub road : Lookup
-  pub found : LookedUp mem counts u v road
+  pub found : LookupTells mem counts u v road
   pub is : verdict ≡ by road
 
 -- the verdict on a change of a van that stands as `old` says

@@ -16,5 +16,5 @@ abbrev pub lookupOf : Map → ℕ → ℕ → Lookup
 lookupOf m u v = cond (isRoad m u v) (Found (roadBetween (m .roads) u v)) (cond (isRoad m v u) OtherWay Neither)
 
 -- in a memory that has the roads of a sound map, the lookup on the map
-abbrev pub LookedUp : List ℕ → Counts → (u v : ℕ) → Lookup → Type 0
-LookedUp mem counts u v r = (m : Map) → Sound m → RoadsKnown m counts mem → r ≡ lookupOf m u v
+abbrev pub LookupTells : List ℕ → Counts → (u v : ℕ) → Lookup → Type 0
+LookupTells mem counts u v r = (m : Map) → Sound m → RoadsKnown m counts mem → r ≡ lookupOf m u v

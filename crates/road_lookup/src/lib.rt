@@ -8,7 +8,7 @@ use places::road_at;
 use places::vertex_at;
 ghost use mathlib.Core.Path.{_≡_};
 ghost use Rattle.road_lookup.specs.Lookup.{endIn, firstRoadIn, FirstTo, Between};
-ghost use Rattle.road_lookup.specs.Answer.{LookedUp};
+ghost use Rattle.road_lookup.specs.Answer.{LookupTells};
 
 // What looking up a road comes to.
 pub enum Lookup {
@@ -76,7 +76,7 @@ pub fn road_between(mem: &[u32], counts: Counts, from: u32, to: u32) -> u32
 
 // The lookup of the road from `from` to `to`. The other way is looked at only where that is none.
 pub fn look_up(mem: &[u32], counts: Counts, from: u32, to: u32) -> Lookup
-    ensures { λ r. ⌜ LookedUp (now (mem .entry)) counts from to r ⌝ }
+    ensures { λ r. ⌜ LookupTells (now (mem .entry)) counts from to r ⌝ }
 {
     let road = road_between(mem, counts, from, to);
     if road < counts.roads {

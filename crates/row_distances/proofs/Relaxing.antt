@@ -16,7 +16,7 @@ use Rattle.far_sums.proofs.Lowering.{lowered-same, lowered-length, lowered-no-m
 use Rattle.cells.specs.Lowered.{lowered}
 use Rattle.listing.specs.Lists.{Among}
 use Rattle.part_words.proofs.Fits.{row-within}
-use Rattle.row_lists.specs.Rows.{ownerAt, nearAt, showsOwn, isKnown, isAsked, AskedRow, OwnRow, Looked}
+use Rattle.row_lists.specs.Rows.{ownerAt, nearAt, showsOwn, isKnown, isAsked, AskedRow, OwnRow, RowsLooked}
 use Rattle.row_lists.proofs.Rows.{row-read}
 use Rattle.row_distances.specs.Distances.{wayIn, Closer, Alone}
 
@@ -110,7 +110,7 @@ owner-lowered mem first size i dx way h isWide isAfter =
 
 -- Rows that are listed.
 module _ {mem : List ℕ} {first size : ℕ} {dx : List ℕ} {test : ℕ → Bool} {places near : List ℕ} {known : ℕ} {asked : List ℕ} {count : ℕ}
-    (l : Looked mem first dx test size places near known asked count) where
+    (l : RowsLooked mem first dx test size places near known asked count) where
   -- a way by the least of the known places is the least by way of any row
   way-least : (table i : ℕ) {way : ℕ} → Least (wayIn mem (table + size * i) places near) known way → Least (wayBy mem first table size dx i) size way
   unfolding wayIn isKnown
@@ -156,7 +156,7 @@ module _ {mem : List ℕ} {first size : ℕ} {dx : List ℕ} {test : ℕ → Boo
 
 -- every row that is asked for
 pub closer-asked : {mem : List ℕ} {first table size : ℕ} (all : Bool) {dx places near : List ℕ} {known : ℕ} {asked : List ℕ} {count : ℕ} {dx′ : List ℕ}
-    → Looked mem first dx (isAsked all mem first dx) size places near known asked count → Closer mem first table size dx (Among asked count) dx′ → Closer mem first table size dx (AskedRow all mem first size dx) dx′
+    → RowsLooked mem first dx (isAsked all mem first dx) size places near known asked count → Closer mem first table size dx (Among asked count) dx′ → Closer mem first table size dx (AskedRow all mem first size dx) dx′
 closer-asked {mem} {first} {size = size} all {dx} l c = closer-map
     (λ i (s, hs, e).
     let (row, asks) = l .asks .only s hs in
@@ -165,7 +165,7 @@ closer-asked {mem} {first} {size = size} all {dx} l c = closer-map
     c
 
 pub closer-own : {mem : List ℕ} {first table size : ℕ} {dx places near : List ℕ} {known : ℕ} {asked : List ℕ} {count : ℕ} {dx′ : List ℕ}
-    → Looked mem first dx (showsOwn mem first) size places near known asked count → Closer mem first table size dx (Among asked count) dx′ → Closer mem first table size dx (OwnRow mem first size) dx′
+    → RowsLooked mem first dx (showsOwn mem first) size places near known asked count → Closer mem first table size dx (Among asked count) dx′ → Closer mem first table size dx (OwnRow mem first size) dx′
 closer-own {mem} {first} {size = size} l c = closer-map
     (λ i (s, hs, e).
     let (row, own) = l .asks .only s hs in

@@ -20,7 +20,7 @@ ghost use Rattle.words.specs.Lists.{word};
 ghost use Rattle.far_sums.specs.Least.{Least};
 ghost use Rattle.listing.specs.Lists.{Among, Lists};
 ghost use Rattle.part_words.specs.Part.{rowsIn};
-ghost use Rattle.row_lists.specs.Rows.{Fits, showsOwn, ownRows, Looked, AskedRow, OwnRow};
+ghost use Rattle.row_lists.specs.Rows.{Fits, showsOwn, ownRows, RowsLooked, AskedRow, OwnRow};
 ghost use Rattle.row_distances.specs.Distances.{wayOver, Closer, Relaxed, Alone, outOf};
 
 // The least way over a row's words of the table by way of one of the places, which are all within the row.
@@ -54,7 +54,7 @@ fn relax_asked(
     asked: &[u32; 128],
     count: usize,
 )
-    requires { ⌜ (first < 2 ^ 32) × (table < 2 ^ 32) × (size ≤ 128) × (first + row·words * size ≤ length (now mem)) × (table + size * size ≤ length (now mem)) × ((test : ℕ → Bool) × Looked (now mem) first (now dx) test size (now places) (now near) known (now asked) count) ⌝ }
+    requires { ⌜ (first < 2 ^ 32) × (table < 2 ^ 32) × (size ≤ 128) × (first + row·words * size ≤ length (now mem)) × (table + size * size ≤ length (now mem)) × ((test : ℕ → Bool) × RowsLooked (now mem) first (now dx) test size (now places) (now near) known (now asked) count) ⌝ }
     ensures { λ _. ⌜ Closer (now (mem .entry)) first table size (now (dx .entry)) (Among (now (asked .entry)) count) (now (dx .exit)) ⌝ }
 {
     let end = first + RowRecord::WORDS * size;

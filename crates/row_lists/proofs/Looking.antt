@@ -15,7 +15,7 @@ use Rattle.listing.specs.Lists.{Lists}
 use Rattle.listing.proofs.Listing.{Listing, listing-none, listing-more, listing-all}
 use Rattle.layout.specs.Layout.{partWord}
 use Rattle.part_words.specs.Part.{rowsIn}
-use Rattle.row_lists.specs.Rows.{nearAt, showsOwn, ownRows, isKnown, Looked}
+use Rattle.row_lists.specs.Rows.{nearAt, showsOwn, ownRows, isKnown, RowsLooked}
 
 -- The rows of a part, listed up to row i.
 pub record Looking (mem : List ℕ) (first : ℕ) (dx : List ℕ) (test : ℕ → Bool) (size i : ℕ) (places near : List ℕ) (known : ℕ) (asked : List ℕ) (count : ℕ) : Type 0 where
@@ -52,7 +52,7 @@ module _ {mem : List ℕ} {first : ℕ} {dx : List ℕ} {test : ℕ → Bool} {s
           ∙ ap (nearAt mem first dx) (sym (ap (λ (w : List ℕ). word w t) isPlaces ∙ getD-set-other places known t i 0 other))
 
   pub looking-all : {i : ℕ} {places near : List ℕ} {known : ℕ} {asked : List ℕ} {count : ℕ} → Looking mem first dx test size i places near known asked count → i ≤ size → size ≤ i
-      → Looked mem first dx test size places near known asked count
+      → RowsLooked mem first dx test size places near known asked count
   looking-all l low high = record { knows = listing-all (l .knows) low high; nears = l .nears; asks = listing-all (l .asks) low high }
 
 -- under the names of a part's words

@@ -65,7 +65,7 @@ abbrev pub Nears : List ℕ → ℕ → List ℕ → List ℕ → List ℕ → �
 Nears mem first dx places near known = (t : ℕ) → t < known → word near t ≡ nearAt mem first dx (word places t)
 
 -- The first `done` rows are listed: the known ones with their distances, and those that are asked for, which are those that pass a test.
-pub record Looked (mem : List ℕ) (first : ℕ) (dx : List ℕ) (test : ℕ → Bool) (done : ℕ) (places near : List ℕ) (known : ℕ) (asked : List ℕ) (count : ℕ) : Type 0 where
+pub record RowsLooked (mem : List ℕ) (first : ℕ) (dx : List ℕ) (test : ℕ → Bool) (done : ℕ) (places near : List ℕ) (known : ℕ) (asked : List ℕ) (count : ℕ) : Type 0 where
   pub knows : Lists (isKnown mem first dx) done places known
   pub nears : Nears mem first dx places near known
   pub asks : Lists test done asked count

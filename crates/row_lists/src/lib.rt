@@ -14,7 +14,7 @@ ghost use Rattle.layout.specs.Layout.{row·words};
 ghost use Rattle.words.specs.Limits.{FAR};
 ghost use Rattle.words.specs.Lists.{word};
 ghost use Rattle.words.specs.Ranks.{rank};
-ghost use Rattle.row_lists.specs.Rows.{showsOwn, Looked, isAsked};
+ghost use Rattle.row_lists.specs.Rows.{showsOwn, RowsLooked, isAsked};
 
 // Word w of row i, where the rows start at `first`.
 pub fn row_word(mem: &[u32], first: usize, i: usize, w: usize) -> u32
@@ -70,7 +70,7 @@ pub fn look(
     asked: &mut [u32],
 ) -> Listed
     requires { ⌜ (first < 2 ^ 32) × (size ≤ 128) × (first + row·words * size ≤ length (now mem)) × (length (now places) ≡ 128) × (length (now near) ≡ 128) × (length (now asked) ≡ 128) ⌝ }
-    ensures { λ r. ⌜ Looked (now (mem .entry)) first (now (dx .entry)) (isAsked all (now (mem .entry)) first (now (dx .entry))) size (now (places .exit)) (now (near .exit)) (r .known) (now (asked .exit)) (r .asked) ⌝ }
+    ensures { λ r. ⌜ RowsLooked (now (mem .entry)) first (now (dx .entry)) (isAsked all (now (mem .entry)) first (now (dx .entry))) size (now (places .exit)) (now (near .exit)) (r .known) (now (asked .exit)) (r .asked) ⌝ }
 {
     let end = first + RowRecord::WORDS * size;
     let rows = &mem[first..end];
@@ -106,7 +106,7 @@ pub fn look_leaf(
     asked: &mut [u32],
 ) -> Listed
     requires { ⌜ (first < 2 ^ 32) × (size ≤ 128) × (first + row·words * size ≤ length (now mem)) × (length (now places) ≡ 128) × (length (now near) ≡ 128) × (length (now asked) ≡ 128) ⌝ }
-    ensures { λ r. ⌜ Looked (now (mem .entry)) first (now (dx .entry)) (showsOwn (now (mem .entry)) first) size (now (places .exit)) (now (near .exit)) (r .known) (now (asked .exit)) (r .asked) ⌝ }
+    ensures { λ r. ⌜ RowsLooked (now (mem .entry)) first (now (dx .entry)) (showsOwn (now (mem .entry)) first) size (now (places .exit)) (now (near .exit)) (r .known) (now (asked .exit)) (r .asked) ⌝ }
 {
     let end = first + RowRecord::WORDS * size;
     let rows = &mem[first..end];

@@ -10,15 +10,15 @@ use Rattle.small_map.specs.Small.{small}
 use Rattle.small_map.specs.Cases.{Case, after, tried}
 
 -- number and value
-unfoldable pub told : Answer → List ℕ
-told a = numberOf a ∷ valueOf a ∷ []
+unfoldable pub numbersOf : Answer → List ℕ
+numbersOf a = numberOf a ∷ valueOf a ∷ []
 
 unfoldable pub lookedUp : ℕ → ℕ → List ℕ
-lookedUp from to = told (look small (freshState 0) (FindRoad from to))
+lookedUp from to = numbersOf (look small (freshState 0) (FindRoad from to))
 
 -- what a change gets where van 1 stands on 4→1
 unfoldable pub triedThen : Change → List ℕ
-triedThen c = told (step small (after (Add 1 4 1 6 ∷ [])) c .answer)
+triedThen c = numbersOf (step small (after (Add 1 4 1 6 ∷ [])) c .answer)
 
 unfoldable pub lookups : List Case
 lookups =

@@ -5,14 +5,14 @@ use mathlib.Core.Logic.{inl, inr}
 use Prim.Native.Nat.{ℕ, _-_, _≤_}
 use lib.ListN.{getD}
 use native.Mathlib.Omega.{arith}
-use Rattle.near_vans.specs.Around.{Least}
+use Rattle.near_vans.specs.Around.{LeastLabel}
 use Rattle.near_vans.proofs.Steps.{least-first, least-less, least-same}
 use borrow.Author.Needs.{needs}
 use Rattle.near_vans.proofs.least.Statement.{statement}
 use Rattle.near_vans.proofs.least.Tie as tie
 
 abbrev Inv-loop : tie.InvT-loop
-Inv-loop labels n place₀ low₀ i₀ place low i = (1 ≤ i) × (i ≤ n) × (low ≡ getD labels place 0) × Least labels i place
+Inv-loop labels n place₀ low₀ i₀ place low i = (1 ≤ i) × (i ≤ n) × (low ≡ getD labels place 0) × LeastLabel labels i place
 
 abbrev μ-loop : tie.MeasureT-loop
 μ-loop labels n place₀ low₀ i₀ place low i = n - i
@@ -32,7 +32,7 @@ returns : tie.Need-returns Inv-loop μ-loop
 returns c =
     let l = c .before .loop in
     let all : l .i ≡ c .before .before .before .args .n = omega arith in
-    subst (λ (n : ℕ). Least (c .before .before .before .args .labels .now) n (l .place)) all (l .inv .3)
+    subst (λ (n : ℕ). LeastLabel (c .before .before .before .args .labels .now) n (l .place)) all (l .inv .3)
 
 pub least-spec : {M : Type 1} → statement M
 least-spec =

@@ -5,7 +5,7 @@ use Prim.Native.Nat.{ℕ, _+_, _^_, _≤_, _<_}
 use native.Mathlib.Omega.{arith}
 use Rattle.roads.specs.Map.{Map}
 use Rattle.fleet.specs.State.{State}
-use Rattle.near_vans.specs.Around.{Opened}
+use Rattle.near_vans.specs.Around.{RoadsFollowed}
 use Rattle.near_vans.proofs.InRoads.{Going, going-start, going-on, going-end}
 use borrow.Author.Needs.{needs}
 use Rattle.near_vans.proofs.meet_all.Statement.{statement}
@@ -13,7 +13,7 @@ use Rattle.near_vans.proofs.meet_all.Tie as tie
 
 abbrev Inv-loop : tie.InvT-loop
 Inv-loop mem counts first near n at₀ labels₀ vertices₀ link₀ waiting₀ left₀ at labels vertices link waiting left =
-    (waiting ≤ 128) × (link < 2 ^ 32) × ((m : Map) (s : State) (x v : ℕ) → Opened m s mem counts x v first near n at₀ labels₀ vertices₀ → Going m x v link waiting at₀ at labels vertices)
+    (waiting ≤ 128) × (link < 2 ^ 32) × ((m : Map) (s : State) (x v : ℕ) → RoadsFollowed m s mem counts x v first near n at₀ labels₀ vertices₀ → Going m x v link waiting at₀ at labels vertices)
 
 abbrev μ-loop : tie.MeasureT-loop
 μ-loop mem counts first near n at₀ labels₀ vertices₀ link₀ waiting₀ left₀ at labels vertices link waiting left = left
