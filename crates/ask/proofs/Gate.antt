@@ -13,6 +13,7 @@ use Rattle.words.specs.Lists.{word, gather}
 use Rattle.words.specs.Tests.{within, _unless_then_}
 use Rattle.words.proofs.Tests.{clash, both-true, within-true}
 use Rattle.words.proofs.Lists.{sum-same, gather-length}
+use Rattle.layout.specs.Layout.{head·vertices}
 use Rattle.roads.specs.Map.{Map}
 use Rattle.fleet.specs.State.{State}
 use Rattle.fleet.specs.Change.{accepted}
@@ -62,7 +63,7 @@ module _ (mem : List ℕ) (x k : ℕ) (out : List ℕ) where
   unfolding reply
   refused-reply m s n e = ap (λ (j : ℕ). replyBy j m s x k out) e
 
-  pub asked-range : opened mem ≡ true → questionInRange (word mem 2) x k ≡ false → Asked mem x k out (answered OutOfRange) out
+  pub asked-range : opened mem ≡ true → questionInRange (word mem head·vertices) x k ≡ false → Asked mem x k out (answered OutOfRange) out
   asked-range there beyond =
       record {
         screened = screened-range there beyond;
@@ -73,7 +74,7 @@ module _ (mem : List ℕ) (x k : ℕ) (out : List ℕ) where
         size = refl;
       }
 
-  module _ (there : opened mem ≡ true) (fits : questionInRange (word mem 2) x k ≡ true) where
+  module _ (there : opened mem ≡ true) (fits : questionInRange (word mem head·vertices) x k ≡ true) where
     fits-in : (m : Map) (s : State) → Shows m s mem → questionInRange (m .vertices) x k ≡ true
     fits-in m s shows = ap (λ (v : ℕ). questionInRange v x k) (sym (vertices-word shows)) ∙ fits
 
@@ -107,7 +108,7 @@ module _ (mem : List ℕ) (x k : ℕ) (out : List ℕ) where
 
         list-length : length list ≡ best .len
         list-length =
-            let range = asked-few (word mem 2) x k fits in
+            let range = asked-few (word mem head·vertices) x k fits in
             length-entries _ (best .fars) (best .vans) (best .len) (omega (arith, few, fars, range)) (omega (arith, few, vans, range))
 
         sized : length (gather listedWords list ++ drop (3 * length list) out) ≡ length out

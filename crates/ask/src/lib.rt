@@ -4,6 +4,7 @@ use cells::wide;
 use cells::word;
 use counts::is_within;
 use head::opened_head;
+use layout::HeadRecord;
 use question::nearest_vans;
 use question::write_list;
 ghost use mathlib.Core.Path.{_≡_};
@@ -30,14 +31,14 @@ pub fn question(mem: &[u32], vertex: u32, k: u32, answer: &mut [u32]) -> Reply
     if !opened_head(mem) {
         return Reply::NotOpened;
     }
-    if !in_range(word(mem, 2), vertex, k) {
+    if !in_range(word(mem, HeadRecord::VERTICES), vertex, k) {
         return Reply::OutOfRange;
     }
     let most = wide(k);
     if answer.len() < 3 * most {
         return Reply::TooFewWords;
     }
-    let used = wide(word(mem, 1));
+    let used = wide(word(mem, HeadRecord::USED));
     let inside = &mem[..used];
     let best = nearest_vans(inside, vertex, most);
     let len = best.len;
