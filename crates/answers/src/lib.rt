@@ -1,4 +1,6 @@
 // What a call answers: that it is accepted, with its value, or which refusal it gets.
+#![tactic(auto)]
+
 ghost use Rattle.std.specs.Prelude.{◌≡◌};
 ghost use Rattle.fleet.specs.Change.{number_of, value_of};
 ghost use Rattle.answers.specs.Answered.{answered};

@@ -1,4 +1,6 @@
 // A question on a lent memory: the head, the ranges and the room are tested first; the memory is only read.
+#![tactic(auto)]
+
 ghost use Rattle.std.specs.Prelude.{◌≡◌};
 ghost use Rattle.answers.specs.Answered.{answered};
 ghost use Rattle.fleet.specs.Question.{question_in_range};

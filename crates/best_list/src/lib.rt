@@ -1,5 +1,7 @@
 // The list of the best k so far: vans with their distances, in order of distance and then van number at every moment.
 // Two arrays, which are lent, and a length.
+#![tactic(auto)]
+
 ghost use Rattle.std.specs.Prelude.{◌≡◌, List, ℕ, ◌≤◌, ◌<◌, length};
 ghost use Rattle.words.specs.Lists.{word};
 ghost use Rattle.fleet.specs.Question.{listed_before};

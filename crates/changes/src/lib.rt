@@ -1,5 +1,7 @@
 // Add, move, remove, claim and release on a lent memory. All tests come before the first store. Each change of a van is one or two of these: written anew in
 // its place, taken out of the list of a vertex, put into the list of a vertex; the rows are refreshed where a vertex becomes active or inactive.
+#![tactic(auto)]
+
 ghost use Rattle.std.specs.Prelude.{◌≡◌, true, ◌&&◌, ◌<◌};
 ghost use Rattle.words.specs.Limits.{vans};
 ghost use Rattle.words.specs.Lists.{word};

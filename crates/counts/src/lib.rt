@@ -1,4 +1,6 @@
 // The counts of a map, in record 1 and in the head of an opened memory, and their limits.
+#![tactic(auto)]
+
 ghost use Rattle.std.specs.Prelude.{◌≡◌};
 ghost use Rattle.words.specs.Tests.{within};
 ghost use Rattle.maps.specs.Rules.{counts_fit};

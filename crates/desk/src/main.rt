@@ -1,5 +1,7 @@
 // The desk program: reads a map, an opening record and calls from standard input, and writes what each gets. It only reads and writes, when the
 // library tells it to; the steps between, and that what they give is right for any input, are in `desk_run`.
+#![tactic(auto)]
+
 ghost use Rattle.std.specs.Prelude.{◌≡◌, ◌≤◌, length};
 ghost use Rattle.desk_lines.specs.Desk.{memory_room};
 ghost use Rattle.desk_calls.specs.Served.{answer_words, most_buffer};

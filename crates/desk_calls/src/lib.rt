@@ -1,4 +1,6 @@
 // What a call of the desk program does: a change or a question is asked of the core, and its lines go into a lent buffer.
+#![tactic(auto)]
+
 mod serving;
 
 ghost use Rattle.std.specs.Prelude.{◌≡◌, ◌<◌};

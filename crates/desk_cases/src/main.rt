@@ -1,6 +1,8 @@
 // Runs the stored inputs of the desk program through its library. Before the lines of each stands a line with its group and number. In the group
 // `rows` every row stands after each accepted change: vertex and distance, part by part. What a second program, written from the scope alone,
 // prints for the same inputs must come out.
+#![tactic(auto)]
+
 ghost use Rattle.std.specs.Prelude.{◌<◌, ◌≤◌, length};
 
 use cells::{wide, word};

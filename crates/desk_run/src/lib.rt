@@ -1,6 +1,8 @@
 // The desk program but for reading and writing. It looks at its input through a window, and keeps its lines in a buffer: this crate says when the window
 // must be filled and when the lines must be written, and does the steps between. What the steps give one after the other is what the whole input gets
 // (proofs/Transcript).
+#![tactic(auto)]
+
 ghost use Rattle.std.specs.Prelude.{◌≡◌, false, ◌+◌, ◌≤◌, length};
 ghost use Rattle.desk_lines.specs.Desk.{memory_room, most_calls};
 ghost use Rattle.desk_calls.specs.Served.{answer_words, most_buffer};

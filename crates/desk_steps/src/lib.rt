@@ -1,4 +1,6 @@
 // The steps of the desk program on the bytes that it has read: the opening, and then one call after the other. The lines of a step go into a lent buffer.
+#![tactic(auto)]
+
 ghost use Rattle.std.specs.Prelude.{◌≡◌, ◌∷◌, [], ◌+◌, ◌≤◌, min, length, take, drop};
 ghost use Rattle.maps.specs.Judge.{judge};
 ghost use Rattle.desk_calls.specs.Served.{answer_words, most_buffer};

@@ -1,4 +1,6 @@
 // Sums of distances: FAR, 4,294,967,295, is the top of the order, and a sum that would pass it is FAR.
+#![tactic(auto)]
+
 ghost use Rattle.std.specs.Prelude.{◌≡◌, ◌+◌, min};
 
 pub const FAR: u32 = 4294967295;

@@ -1,5 +1,7 @@
 // The core's eight calls, for any bytes, numbers and memory. Each contract is one outcome record of the definitions
 // (crates/calls/specs/Outcome.antt); what follows for any run of calls is listed in proofs/Promises.antt.
+#![tactic(auto)]
+
 ghost use Rattle.answers.specs.Answered.{answered};
 ghost use Rattle.calls.specs.Outcome.{Opened, Added, Moved, Removed, Claimed, Released, Asked, LookedUp};
 

@@ -1,5 +1,7 @@
 // The core's calls as C functions on numbers and slices, and nothing else. A slice is a pointer and a length. A reply has the refusal, or 0
 // where the call is accepted, and then the stamp, the length, the start number, or 0 for a road. include/hailtrellis.h declares them for C.
+#![tactic(auto)]
+
 ghost use Rattle.std.specs.Prelude.{◌≡◌};
 ghost use Rattle.answers.specs.Answered.{answered};
 ghost use Rattle.calls.specs.Outcome.{Opened, Added, Moved, Removed, Claimed, Released, Asked, LookedUp};

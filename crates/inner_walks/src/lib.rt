@@ -1,1 +1,2 @@
 // Walks inside a part: definitions and laws only.
+#![tactic(auto)]

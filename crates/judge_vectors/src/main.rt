@@ -1,6 +1,8 @@
 // Judges every map of the stored packs and writes a line for each: `GROUP INDEX refused N`, or `GROUP INDEX sound` with the
 // numbers of vertices, roads and parts and the need in words. The answers of a second program, written from the scope alone, are what
 // must come out.
+#![tactic(auto)]
+
 ghost use Rattle.std.specs.Prelude.{◌<◌, ◌≤◌, length};
 
 use libc::STDOUT_FILENO;

@@ -1,5 +1,7 @@
 // Where the words of a memory stand: how many words a record has, and which of them says what. `specs/Layout.antt` names the same numbers for
 // contracts, and each section's start. Words that have no name are 0, room for what is still to come.
+#![tactic(auto)]
+
 ghost use Rattle.std.specs.Prelude.{◌≡◌, ◌<◌};
 ghost use Rattle.layout.specs.Layout.{words_in_part, words_in_row, part_word, row_word};
 

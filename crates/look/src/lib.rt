@@ -1,4 +1,6 @@
 // Looking up a road on a lent memory: the head is tested first; the memory is only read.
+#![tactic(auto)]
+
 ghost use Rattle.answers.specs.Answered.{answered};
 ghost use Rattle.calls.specs.Outcome.{LookedUp};
 

@@ -1,4 +1,6 @@
 // The lift of each vertex and the size of each part of a map that keeps the other rules, and the border limit: the last test for refusal 3.
+#![tactic(auto)]
+
 ghost use Rattle.std.specs.Prelude.{◌≡◌, ℕ, ◌<◌, ◌≤◌, max, length};
 ghost use Rattle.words.specs.Limits.{most_vertices, most_parts, NONE};
 ghost use Rattle.words.specs.Lists.{word};

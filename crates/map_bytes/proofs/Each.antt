@@ -4,7 +4,7 @@ use mathlib.Core.Path.{◌≡◌, refl, sym, ap, ap₂, ◌∙◌}
 use mathlib.Core.Bool.{Bool, true, false, not, ◌&&◌}
 use Prim.Native.Nat.{ℕ, suc, ◌+◌, ◌-◌, ◌<◌, ◌≤◌}
 use native.Mathlib.Omega.{arith}
-use borrow.Author.Tests.{not_true, not_false}
+use borrow.Author.Tests.{not-true, not-false}
 use Rattle.words.specs.Lists.{count_from, up_to, all}
 use Rattle.map_bytes.specs.Each.{each_from}
 
@@ -35,10 +35,10 @@ module _ {test : ℕ → Bool} {n : ℕ} where
 
 -- a test that a function answers
 pub said_passed : {said test : Bool} → said ≡ test → not said ≡ false → test ≡ true
-said_passed is e = sym is ∙ not_false _ e
+said_passed is e = sym is ∙ not-false _ e
 
 pub said_failed : {said test : Bool} → said ≡ test → not said ≡ true → test ≡ false
-said_failed is e = sym is ∙ not_true _ e
+said_failed is e = sym is ∙ not-true _ e
 
 -- what proves such a loop
 pub ruleset tests = (left_start, left_passed, left_failed, left_done, said_passed, said_failed)

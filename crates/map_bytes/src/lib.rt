@@ -1,4 +1,6 @@
 // Little-endian numbers and records in any bytes. A byte past the end reads as 0, as in the definitions.
+#![tactic(auto)]
+
 ghost use Rattle.std.specs.Prelude.{◌≡◌, ◌<◌, ◌≤◌, length, drop, get_or};
 ghost use Rattle.maps.specs.Bytes.{field, is_record, number_at};
 ghost use Rattle.map_bytes.specs.Copied.{Copied};

@@ -1,5 +1,7 @@
 // What the bytes of a map get: a refusal 1 to 4, in the scope's order, or its counts and the memory that it needs. Any
 // bytes are judged, with arrays of the function's own.
+#![tactic(auto)]
+
 ghost use Rattle.std.specs.Prelude.{◌≡◌, ℕ, ◌<◌, ◌≤◌, length};
 ghost use Rattle.words.specs.Lists.{word};
 ghost use Rattle.roads.specs.Map.{Map};

@@ -1,4 +1,6 @@
 // The rules for the parts of a map but for the border limit: the first test for refusal 3.
+#![tactic(auto)]
+
 ghost use Rattle.std.specs.Prelude.{◌≡◌, ℕ, ◌<◌, ◌≤◌, length};
 ghost use Rattle.words.specs.Limits.{most_parts};
 ghost use Rattle.words.specs.Lists.{word};

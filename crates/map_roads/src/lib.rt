@@ -1,4 +1,6 @@
 // The roads of record 4, and the rules for them: the test for refusal 4.
+#![tactic(auto)]
+
 ghost use Rattle.std.specs.Prelude.{◌≡◌};
 ghost use Rattle.maps.specs.Bytes.{road_shown};
 ghost use Rattle.maps.specs.Rules.{road_fits, road_before};

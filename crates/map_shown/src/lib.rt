@@ -1,1 +1,2 @@
 // What lent words and bytes show of a map: definitions only.
+#![tactic(auto)]

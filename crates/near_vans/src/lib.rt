@@ -1,5 +1,7 @@
 // The nearest free vans where they are near: a search around the caller, vertex by vertex, over the roads that end at each, from the nearest
 // vertex on. It says `done` where its list is the answer, and gives up where that takes too many vertices.
+#![tactic(auto)]
+
 ghost use Rattle.std.specs.Prelude.{◌≡◌, true, List, ℕ, suc, ◌+◌, ◌-◌, ◌*◌, ◌%◌, ◌≤◌, ◌<◌, length, set};
 ghost use Rattle.words.specs.Lists.{word};
 ghost use Rattle.roads.specs.Map.{Map};

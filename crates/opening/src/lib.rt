@@ -1,4 +1,6 @@
 // Opening: the map is judged, and where the memory has room, the whole memory of the map and an empty fleet is written.
+#![tactic(auto)]
+
 ghost use Rattle.std.specs.Prelude.{◌≡◌, ◌≤◌, length};
 ghost use Rattle.roads.specs.Map.{Map};
 ghost use Rattle.maps.specs.Judge.{sound, judge};

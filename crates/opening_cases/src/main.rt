@@ -1,5 +1,7 @@
 // Opens stored maps in memories of chosen lengths, all words 7 before, and writes for each: the words lent, the number and the value of the reply, the first
 // six words, chosen words, and a digest of all words lent. What a second program, written from the scope alone, makes of the same maps must come out.
+#![tactic(auto)]
+
 ghost use Rattle.std.specs.Prelude.{◌<◌, ◌≤◌};
 
 use libc::STDOUT_FILENO;

@@ -1,1 +1,2 @@
 // What the memory of an empty fleet shows: definitions only.
+#![tactic(auto)]

@@ -1,4 +1,6 @@
 // From the bytes of an accepted map to all sections of its memory but the distance tables.
+#![tactic(auto)]
+
 ghost use Rattle.std.specs.Prelude.{◌≡◌, ◌≤◌, length};
 ghost use Rattle.roads.specs.Map.{Map};
 ghost use Rattle.maps.specs.Sound.{Sound};

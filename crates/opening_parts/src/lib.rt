@@ -1,5 +1,7 @@
 // The section of the parts. They are walked from the last to the first, so that the children of a part are known before it, and each is put
 // in front of the children of its parent.
+#![tactic(auto)]
+
 ghost use Rattle.std.specs.Prelude.{◌≡◌, ◌+◌, ◌<◌, ◌≤◌, set};
 ghost use Rattle.std.proofs.lemmas.List.Edits.{sets};
 ghost use Rattle.words.specs.Limits.{most_parts};

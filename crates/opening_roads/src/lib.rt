@@ -1,5 +1,7 @@
 // The section of the roads, and the link from each vertex to the first road into it. The roads are walked from the last to the first,
 // and each is put in front of the roads into the same vertex that come after it.
+#![tactic(auto)]
+
 ghost use Rattle.std.specs.Prelude.{◌≡◌, ◌+◌, ◌<◌, ◌≤◌, set};
 ghost use Rattle.std.proofs.lemmas.List.Edits.{sets};
 ghost use Rattle.words.specs.Limits.{most_roads};

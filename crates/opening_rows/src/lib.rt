@@ -1,5 +1,7 @@
 // The section of the rows, all of them empty, in one pass over the vertices: each has a row in its leaf, and from there upward in every part
 // that it is a border of. So each part's rows come in rising order, and the row in the child is written just before the row in its parent.
+#![tactic(auto)]
+
 ghost use Rattle.std.specs.Prelude.{◌≡◌, ℕ, suc, ◌+◌, ◌*◌, ◌<◌, ◌≤◌, true, List};
 ghost use Rattle.words.specs.Limits.{most_vertices, most_parts};
 ghost use Rattle.layout.specs.Layout.{child_in_row};

@@ -1,4 +1,6 @@
 // All sections of the memory of an accepted map but the distance tables: each by its own function, in words that no other writes.
+#![tactic(auto)]
+
 ghost use Rattle.std.specs.Prelude.{◌≡◌, List, ℕ, ◌+◌, ◌*◌, ◌<◌, ◌≤◌, length};
 ghost use Rattle.std.proofs.lemmas.List.Edits.{sets};
 ghost use Rattle.words.specs.Limits.{most_vertices, most_roads, most_parts};

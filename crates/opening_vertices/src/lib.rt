@@ -1,5 +1,7 @@
 // The section of the vertices, in one pass over them: each takes the next place in its leaf, and the first road out is found by going on
 // from that of the vertex before.
+#![tactic(auto)]
+
 ghost use Rattle.std.specs.Prelude.{◌≡◌, ◌+◌, ◌%◌, ◌^◌, ◌<◌, ◌≤◌, slice_set};
 ghost use Rattle.std.proofs.lemmas.List.Edits.{sets};
 ghost use Rattle.words.specs.Limits.{most_vertices, most_roads};

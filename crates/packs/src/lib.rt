@@ -1,4 +1,6 @@
 // Packs: items one after the other, each as its length (4 bytes, little-endian) and its bytes. What stands at a place of one; and reading one.
+#![tactic(auto)]
+
 ghost use Rattle.std.specs.Prelude.{◌<◌, length};
 ghost use Rattle.io.specs.Counts.{IsPrefixLen};
 ghost use Rattle.packs.specs.Pack.{ItemStands};

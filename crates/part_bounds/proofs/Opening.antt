@@ -53,13 +53,13 @@ pub spread_from : {mem : List ℕ} {first : ℕ} {dx : List ℕ} {Given : ℕ �
 spread_from {mem} {first} {dx} {Given} {keys} {keys₁} {waits} {waits₁} {n} {n₁} {keys'} {waits'} {n'} k w e s =
     subst (λ (a : List ℕ). Spread mem first dx Given a waits₁ n₁ keys' waits' n') k (subst (λ (a : List ℕ). Spread mem first dx Given keys a n₁ keys' waits' n') w (subst (λ (a : ℕ). Spread mem first dx Given keys waits a keys' waits' n') e s))
 
-pub not_true : (b : Bool) → not b ≡ true → b ≡ false
-not_true true e = sym e
-not_true false e = refl
+pub not-true : (b : Bool) → not b ≡ true → b ≡ false
+not-true true e = sym e
+not-true false e = refl
 
-pub not_false : (b : Bool) → not b ≡ false → b ≡ true
-not_false true e = refl
-not_false false e = sym e
+pub not-false : (b : Bool) → not b ≡ false → b ≡ true
+not-false true e = refl
+not-false false e = sym e
 
 module _ (all : Bool) {mem : List ℕ} {first : ℕ} {dx : List ℕ} {size : ℕ} {places near : List ℕ} {known : ℕ} {asked : List ℕ} {count : ℕ} (l : RowsLooked mem first dx (is_asked all mem first dx) size places near known asked count)
     (apart : Apart mem first size) where

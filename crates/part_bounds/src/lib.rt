@@ -1,4 +1,6 @@
 // A part opened up: its rows get their distances to the vertex asked at, and its children the keys that these give, which bound what lies in them.
+#![tactic(auto)]
+
 ghost use Rattle.std.specs.Prelude.{◌≡◌, Bool, ◌+◌, ◌*◌, ◌≤◌, ◌<◌, ◌^◌, length};
 ghost use Rattle.layout.specs.Layout.{words_in_row};
 ghost use Rattle.listing.specs.Lists.{Among};

@@ -1,4 +1,6 @@
 // Keys of parts, and the parts that wait: a row whose vertex has a distance gives the child that it lies in a key, and a child that had none joins those that wait.
+#![tactic(auto)]
+
 ghost use Rattle.std.specs.Prelude.{◌≡◌, cond, ◌&&◌, List, ℕ, ◌+◌, ◌*◌, ◌≤◌, ◌<◌, ◌^◌, length, set, leb, ltb};
 ghost use Rattle.layout.specs.Layout.{words_in_row};
 ghost use Rattle.words.specs.Limits.{FAR};

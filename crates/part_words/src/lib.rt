@@ -1,4 +1,6 @@
 // The record of a part: its words, and where its rows and its table stand.
+#![tactic(auto)]
+
 ghost use Rattle.std.specs.Prelude.{◌≡◌, ◌&&◌, ◌+◌, ◌*◌, ◌^◌, ◌≤◌, ◌<◌, leb};
 ghost use Rattle.layout.specs.Layout.{words_in_part, words_in_row, part_word};
 ghost use Rattle.part_words.specs.Part.{rows_in, PartRead};

@@ -1,4 +1,6 @@
 // Where the records of vertices, roads and vans stand in a memory whose head has these counts. Any counts are taken.
+#![tactic(auto)]
+
 ghost use Rattle.std.specs.Prelude.{◌≡◌};
 ghost use Rattle.places.specs.Place.{counts_in, vertex_address, road_address, van_address};
 

@@ -1,4 +1,6 @@
 // Records of words, written at an address of a lent memory. Past the memory's end nothing changes.
+#![tactic(auto)]
+
 ghost use Rattle.std.specs.Prelude.{◌≡◌, [], ◌∷◌};
 ghost use Rattle.std.proofs.lemmas.List.Edits.{sets};
 ghost use Rattle.records.specs.Cleared.{cleared};

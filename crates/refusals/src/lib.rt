@@ -1,5 +1,7 @@
 // What a change gets, but for the head, the ranges and the change count: the first refusal that applies, or how the van is to stand. The memory is only
 // read. The tests are those of the definitions, on the words of the van and of the road; any words are taken.
+#![tactic(auto)]
+
 ghost use Rattle.std.specs.Prelude.{◌≡◌, ◌<◌};
 ghost use Rattle.fleet.specs.Change.{van_of};
 ghost use Rattle.refusals.specs.Verdict.{desk_of, weight_in, placing, adding, moving, removing, claiming, releasing, HasVerdict};

@@ -1,5 +1,7 @@
 // The road from one vertex to another, by binary search over the roads of the first; where there is none, whether there is one the other way.
 // Any numbers and any words are taken.
+#![tactic(auto)]
+
 ghost use Rattle.std.specs.Prelude.{◌≡◌};
 ghost use Rattle.road_lookup.specs.Lookup.{end_in, first_road_in, FirstTo, Between};
 ghost use Rattle.road_lookup.specs.Answer.{LookupTells};

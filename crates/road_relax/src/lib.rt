@@ -1,4 +1,6 @@
 // Roads relaxed: a road whose offer is less than the label of its end lowers it, and the end waits.
+#![tactic(auto)]
+
 ghost use Rattle.std.specs.Prelude.{◌≡◌, length};
 ghost use Rattle.words.specs.Limits.{most_vertices};
 ghost use Rattle.roads.specs.Dist.{relax, relax_all};

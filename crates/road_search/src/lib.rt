@@ -1,5 +1,7 @@
 // The distances from one vertex to all others, by labels that fall: a vertex whose label fell waits, and is taken to relax its roads out.
 // The result does not depend on the order in which the waiting vertices are taken.
+#![tactic(auto)]
+
 ghost use Rattle.std.specs.Prelude.{◌≡◌, ◌+◌, ◌*◌, ◌≤◌, ◌<◌, length, set};
 ghost use Rattle.words.specs.Limits.{FAR, most_vertices};
 ghost use Rattle.layout.specs.Layout.{words_in_vertex};

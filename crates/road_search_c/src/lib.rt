@@ -1,4 +1,5 @@
 // The search for programs in other languages: it tests whatever words it is given, and runs where they show roads.
+#![tactic(auto)]
 
 ghost use Rattle.std.specs.Prelude.{◌≡◌, ◌+◌, ◌*◌, ◌≤◌, ◌<◌, length};
 ghost use Rattle.layout.specs.Layout.{words_in_vertex, words_in_road};

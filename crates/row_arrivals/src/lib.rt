@@ -1,4 +1,6 @@
 // A vertex became active: it is offered to the rows of a part by way of the sources that show it.
+#![tactic(auto)]
+
 ghost use Rattle.std.specs.Prelude.{◌≡◌, false, ◌||◌, ◌∷◌, ◌+◌, ◌*◌, ◌≤◌, ◌<◌, length};
 ghost use Rattle.layout.specs.Layout.{words_in_row};
 ghost use Rattle.rows.specs.Row.{comes_before};

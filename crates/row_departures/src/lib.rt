@@ -1,4 +1,6 @@
 // A vertex became inactive: the rows of a part that show it are made anew from the part's sources as they stand.
+#![tactic(auto)]
+
 ghost use Rattle.std.specs.Prelude.{◌≡◌, map, ◌+◌, ◌*◌, ◌≤◌, ◌<◌, length, take};
 ghost use Rattle.layout.specs.Layout.{words_in_row};
 ghost use Rattle.listing.specs.Lists.{EachBelow};

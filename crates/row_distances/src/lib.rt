@@ -1,4 +1,6 @@
 // Distances to the vertex asked at, for the vertices that have a row in a part: each row that is asked for gets as little as a way by way of a row makes it.
+#![tactic(auto)]
+
 ghost use Rattle.std.specs.Prelude.{◌≡◌, Bool, true, ℕ, ◌+◌, ◌*◌, ◌≤◌, ◌<◌, ◌^◌, length, take};
 ghost use Rattle.layout.specs.Layout.{rows_in_part, table_in_part, words_in_row, part_word};
 ghost use Rattle.words.specs.Lists.{word};

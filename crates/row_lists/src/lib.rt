@@ -1,5 +1,7 @@
 // The rows of a part, listed by their numbers in one pass: those whose vertices have a distance to the vertex asked at, and those whose distance is asked for.
 // `dx` has a distance for each vertex, FAR where none is known yet.
+#![tactic(auto)]
+
 ghost use Rattle.std.specs.Prelude.{◌≡◌, ◌&&◌, ◌||◌, ◌+◌, ◌*◌, ◌≤◌, ◌<◌, ◌^◌, length, leb, ltb};
 ghost use Rattle.layout.specs.Layout.{words_in_row};
 ghost use Rattle.words.specs.Limits.{FAR};

@@ -1,5 +1,7 @@
 // The nearest rows kept exact when one vertex becomes active or inactive. Every function says what it does to any list of words, so forged
 // words harm nothing; what that means of the words of a map and a fleet is proved about these definitions, in crate row_memory.
+#![tactic(auto)]
+
 ghost use Rattle.std.specs.Prelude.{◌≡◌, ◌+◌, ◌*◌, ◌≤◌, ◌<◌, length, take};
 ghost use Rattle.layout.specs.Layout.{words_in_row, below_in_row};
 ghost use Rattle.row_refresh.specs.Model.{shows_in, showing, changed, touches, refreshed, touched, refreshed_up, own_row, switched};

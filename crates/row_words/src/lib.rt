@@ -1,4 +1,6 @@
 // A row of a part, as the two words that show it and as one number; and what stands one step further down from it.
+#![tactic(auto)]
+
 ghost use Rattle.std.specs.Prelude.{◌≡◌, ◌+◌, ◌*◌, ◌/◌, ◌%◌, ◌<◌, length};
 ghost use Rattle.layout.specs.Layout.{below_in_row};
 ghost use Rattle.row_words.specs.Words.{row_in, shown, source_in, placed, unplaced};

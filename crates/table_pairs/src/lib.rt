@@ -1,4 +1,6 @@
 // The table of a part and those of its children: at the vertices that they share each word becomes the lesser of the two.
+#![tactic(auto)]
+
 ghost use Rattle.std.specs.Prelude.{◌≡◌, ℕ, ◌≤◌, ◌<◌, length};
 ghost use Rattle.roads.specs.Map.{Map, part_count};
 ghost use Rattle.parts.specs.Size.{size_of};

@@ -1,4 +1,6 @@
 // The roads between the row vertices of a part: each lowers one word of the part's table, and marks its ends where it leads out of a child.
+#![tactic(auto)]
+
 ghost use Rattle.std.specs.Prelude.{◌≡◌, suc, ◌≤◌, ◌<◌, length};
 ghost use Rattle.words.specs.Limits.{most_vertices, most_borders};
 ghost use Rattle.roads.specs.Map.{Map, part_count, road_count};

@@ -1,5 +1,7 @@
 // Tables of weights, row after row: one node tried as a halt between every two, and a table blanked. Each works in place on a table that stands
 // anywhere in a memory, and leaves all other words.
+#![tactic(auto)]
+
 ghost use Rattle.std.specs.Prelude.{◌≡◌, ◌+◌, ◌*◌, ◌≤◌, ◌<◌, min, length, get_or};
 ghost use Rattle.words.specs.Limits.{most_borders, FAR};
 ghost use Rattle.table_rows.specs.Flat.{entry, through, blank, Holds, StartsWith, Begins, Tried, Blanked};

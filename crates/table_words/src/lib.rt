@@ -1,4 +1,6 @@
 // Words of rows and tables: how they are read, and leveled.
+#![tactic(auto)]
+
 ghost use Rattle.std.specs.Prelude.{◌≡◌, ℕ, ◌+◌, ◌*◌, ◌≤◌, ◌<◌};
 ghost use Rattle.layout.specs.Layout.{rows_in_part, words_in_row, child_in_row, part_word};
 ghost use Rattle.roads.specs.Map.{Map, part_count};

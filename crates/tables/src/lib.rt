@@ -1,6 +1,8 @@
 // The distance tables of all parts, in place. From the last part to the first each table is made right inside its part, from the roads between the
 // part's row vertices and the children's tables; then, from the first part to the last, each child's table becomes right over the whole map, by way
 // of its boundary vertices and the parent's table.
+#![tactic(auto)]
+
 ghost use Rattle.std.specs.Prelude.{◌≡◌, List, ℕ, suc, ◌≤◌, ◌<◌, length};
 ghost use Rattle.words.specs.Limits.{most_vertices};
 ghost use Rattle.roads.specs.Map.{Map, part_count};

@@ -1,4 +1,6 @@
 // The free vans that head for a vertex, and those that head for the vertices of some rows, offered to the list of the best.
+#![tactic(auto)]
+
 ghost use Rattle.std.specs.Prelude.{◌≡◌, ◌+◌, ◌*◌, ◌≤◌, ◌<◌, ◌^◌, length, take};
 ghost use Rattle.words.specs.Limits.{vans as mostVans};
 ghost use Rattle.words.specs.Lists.{word};

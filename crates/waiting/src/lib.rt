@@ -1,5 +1,7 @@
 // The vertices that wait in a search: each has a key, which is FAR where it does not wait. The least is taken, for speed: `tree` holds the least key below each of
 // its nodes, with its vertex, four to a node, and no proof rests on what it holds.
+#![tactic(auto)]
+
 ghost use Rattle.std.specs.Prelude.{◌≡◌, ◌+◌, ◌*◌, ◌/◌, ◌≤◌, ◌<◌, set};
 ghost use Rattle.words.specs.Limits.{FAR};
 ghost use Rattle.words.specs.Lists.{word};

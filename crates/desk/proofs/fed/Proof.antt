@@ -1,13 +1,13 @@
 -- `fed` reads on where the window shows too little.
 -- Assumes nothing.
 use borrow.Author.Rules.{rules}
-use borrow.Author.Tests.{not_true}
+use borrow.Author.Tests.{not-true}
 use Rattle.desk.proofs.Turns.{fed_already, moved_to, fed_now}
 use Rattle.desk.proofs.fed.Statement.{statement}
 use Rattle.desk.proofs.fed.Tie as tie
 
 already : tie.Need-returns
-already c = fed_already _ c.before.before.before.requires.0 (c.before.hungry.ensures (not_true _ c.if1.true))
+already c = fed_already _ c.before.before.before.requires.0 (c.before.hungry.ensures (not-true _ c.if1.true))
 
 room : tie.Need-overflow-sub-read-full
 room c = search (rules, moved_to _ _ c.before.before.packed.ensures.1, c.before.before.packed.ensures.0.size, c.before.before.before.before.before.before.before.requires.0.within)

@@ -6,7 +6,7 @@ use Prim.Native.Nat.{◌-◌, ◌≤◌}
 use native.Mathlib.Omega.{arith}
 use lib.ListN.{length}
 use borrow.Author.Rules.{rules}
-use borrow.Author.Tests.{not_true}
+use borrow.Author.Tests.{not-true}
 use Rattle.desk_run.specs.Desk.{InWindow}
 use Rattle.desk.proofs.Turns.{stands_in_lem, fresh_stands, may_step, place_rises}
 use Rattle.desk.proofs.run.Statement.{statement}
@@ -25,7 +25,7 @@ loop-holds c = let f = fresh_stands _ _ _ c.fresh.ensures in (f.0, f.1, f.2, ref
 
 fed-requires : tie.Need-fed-requires invariant-loop decreases-loop
 fed-requires c κs =
-    (stands_in_lem (c.before.before.loop.invariant.1 (sym c.before.before.loop.invariant.0 ∙ not_true _ c.before.loop-test.true)) c.before.before.loop.invariant.3, omega (arith, c.before.before.loop.invariant.3, c.before.before.before.before.before.before.before.before.requires.0))
+    (stands_in_lem (c.before.before.loop.invariant.1 (sym c.before.before.loop.invariant.0 ∙ not-true _ c.before.loop-test.true)) c.before.before.loop.invariant.3, omega (arith, c.before.before.loop.invariant.3, c.before.before.before.before.before.before.before.before.requires.0))
 
 relieved-requires : tie.Need-relieved-requires invariant-loop decreases-loop
 relieved-requires c κs =
@@ -33,14 +33,14 @@ relieved-requires c κs =
 
 step-requires : tie.Need-step-requires invariant-loop decreases-loop
 step-requires c κs = (
-  may_step _ _ _ (sym c.before.before.before.before.before.before.before.before.before.before.before.loop.invariant.0 ∙ not_true _ c.before.before.before.before.before.before.before.before.before.before.loop-test.true) c.before.before.before.before.before.before.before.before.fed.ensures c.before.before.before.before.relieved.ensures (search rules),
+  may_step _ _ _ (sym c.before.before.before.before.before.before.before.before.before.before.before.loop.invariant.0 ∙ not-true _ c.before.before.before.before.before.before.before.before.before.before.loop-test.true) c.before.before.before.before.before.before.before.before.fed.ensures c.before.before.before.before.relieved.ensures (search rules),
   c.before.before.before.before.before.before.before.before.before.before.before.loop.invariant.4 ∙ c.before.before.before.before.before.before.before.before.before.before.before.before.before.before.before.before.before.requires.1,
   c.before.before.before.before.before.before.before.before.before.before.before.loop.invariant.5 ∙ c.before.before.before.before.before.before.before.before.before.before.before.before.before.before.before.before.before.requires.2,
 )
 
 loop-less : tie.Need-loop-smaller invariant-loop decreases-loop
 loop-less c =
-    omega (arith, place_rises _ _ _ c.before.before.before.before.before.before.before.before.before.before.before.before.before.before.before.fed.ensures c.before.before.before.before.before.before.before.before.before.before.before.relieved.ensures c.before.before.before.before.before.before.step.ensures, (c.before.before.before.before.before.before.before.before.before.before.before.before.before.before.before.before.before.before.loop.invariant.1 (sym c.before.before.before.before.before.before.before.before.before.before.before.before.before.before.before.before.before.before.loop.invariant.0 ∙ not_true _ c.before.before.before.before.before.before.before.before.before.before.before.before.before.before.before.before.before.loop-test.true)).few)
+    omega (arith, place_rises _ _ _ c.before.before.before.before.before.before.before.before.before.before.before.before.before.before.before.fed.ensures c.before.before.before.before.before.before.before.before.before.before.before.relieved.ensures c.before.before.before.before.before.before.step.ensures, (c.before.before.before.before.before.before.before.before.before.before.before.before.before.before.before.before.before.before.loop.invariant.1 (sym c.before.before.before.before.before.before.before.before.before.before.before.before.before.before.before.before.before.before.loop.invariant.0 ∙ not-true _ c.before.before.before.before.before.before.before.before.before.before.before.before.before.before.before.before.before.loop-test.true)).few)
 
 loop-again : tie.Need-loop-preserved invariant-loop decreases-loop
 loop-again c = (

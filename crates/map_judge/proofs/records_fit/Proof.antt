@@ -6,7 +6,7 @@ use mathlib.Core.List.{List}
 use Prim.Native.Nat.{ℕ}
 use lib.ListN.{length}
 use lib.Dec.{eqb}
-use borrow.Author.Tests.{not_true, not_false}
+use borrow.Author.Tests.{not-true, not-false}
 use Rattle.maps.specs.Bytes.{Counts, is_record, length2, length3, length4, start2, start3, start4, map_end}
 use Rattle.maps.specs.Judge.{rest_fits}
 use Rattle.map_judge.specs.Bodies.{the_counts}
@@ -29,25 +29,25 @@ parts bytes c {fits2 = fits2} {fits3 = fits3} {fits4 = fits4} is2 e2 is3 e3 is4 
 returns : tie.Need-returns
 returns c =
     let a = c.before.before.before.args in
-    parts a.map.now (the_counts a.counts.vertices a.counts.roads a.counts.parts) c.before.is-record.ensures (not_true _ c.if1.true) refl refl refl refl
+    parts a.map.now (the_counts a.counts.vertices a.counts.roads a.counts.parts) c.before.is-record.ensures (not-true _ c.if1.true) refl refl refl refl
 
 returns-2 : tie.Need-returns-2
 returns-2 c =
     let a = c.before.before.before.before.before.args in
-    parts a.map.now (the_counts a.counts.vertices a.counts.roads a.counts.parts) c.before.before.before.is-record.ensures (not_false _ c.before.before.if1.false)
-    c.before.is-record2.ensures (not_true _ c.if2.true) refl refl
+    parts a.map.now (the_counts a.counts.vertices a.counts.roads a.counts.parts) c.before.before.before.is-record.ensures (not-false _ c.before.before.if1.false)
+    c.before.is-record2.ensures (not-true _ c.if2.true) refl refl
 
 returns-3 : tie.Need-returns-3
 returns-3 c =
     let a = c.before.before.before.before.before.before.before.args in
-    parts a.map.now (the_counts a.counts.vertices a.counts.roads a.counts.parts) c.before.before.before.before.before.is-record.ensures (not_false _ c.before.before.before.before.if1.false)
-    c.before.before.before.is-record2.ensures (not_false _ c.before.before.if2.false) c.before.is-record3.ensures (not_true _ c.if3.true)
+    parts a.map.now (the_counts a.counts.vertices a.counts.roads a.counts.parts) c.before.before.before.before.before.is-record.ensures (not-false _ c.before.before.before.before.if1.false)
+    c.before.before.before.is-record2.ensures (not-false _ c.before.before.if2.false) c.before.is-record3.ensures (not-true _ c.if3.true)
 
 returns-4 : tie.Need-returns-4
 returns-4 c =
     let a = c.before.before.before.before.before.before.before.args in
-    parts a.map.now (the_counts a.counts.vertices a.counts.roads a.counts.parts) c.before.before.before.before.before.is-record.ensures (not_false _ c.before.before.before.before.if1.false)
-    c.before.before.before.is-record2.ensures (not_false _ c.before.before.if2.false) c.before.is-record3.ensures (not_false _ c.if3.false)
+    parts a.map.now (the_counts a.counts.vertices a.counts.roads a.counts.parts) c.before.before.before.before.before.is-record.ensures (not-false _ c.before.before.before.before.if1.false)
+    c.before.before.before.is-record2.ensures (not-false _ c.before.before.if2.false) c.before.is-record3.ensures (not-false _ c.if3.false)
 
 pub records-fit-spec : {M : Type 1} → statement M
 records-fit-spec =

@@ -7,7 +7,7 @@ use mathlib.Core.Bool.{Bool}
 use lib.Dec.{eqb}
 use Rattle.words.specs.Limits.{most_parts, NONE}
 use Rattle.words.proofs.Lists.{all_same}
-use borrow.Author.Tests.{eq-eqb, ne_eqb, not_true, not_false}
+use borrow.Author.Tests.{eq-eqb, ne_eqb, not-true, not-false}
 use Rattle.map_parts.proofs.Fits.{no_root, parts_fit_is}
 use borrow.Author.Rules.{rules}
 use Rattle.map_parts.proofs.parts_fit.Statement.{statement}
@@ -30,13 +30,13 @@ returns-2 : tie.Need-returns-2
 returns-2 c m shows =
     parts_fit_is m _ _ _ _ shows _ _ c.before.before.before.before.before.before.tally.ensures c.before.before.before.before.tally2.ensures c.before.before.before.before.before.before.before.before.before.before.before.before.requires.2 c.before.before.before.before.before.before.before.before.before.before.before.before.requires.1
     (at-root c.before.before.before.before.before.before.before.before.before.entry.ensures (eq-eqb _ _ c.before.before.before.before.before.before.before.before.if1.false))
-    (sym (not_true _ c.if2.true) ∙ c.before.tree-fits.ensures) refl
+    (sym (not-true _ c.if2.true) ∙ c.before.tree-fits.ensures) refl
 
 returns-3 : tie.Need-returns-3
 returns-3 c m shows =
     parts_fit_is m _ _ _ _ shows _ _ c.before.before.before.before.before.before.before.before.tally.ensures c.before.before.before.before.before.before.tally2.ensures c.before.before.before.before.before.before.before.before.before.before.before.before.before.before.requires.2 c.before.before.before.before.before.before.before.before.before.before.before.before.before.before.requires.1
     (at-root c.before.before.before.before.before.before.before.before.before.before.before.entry.ensures (eq-eqb _ _ c.before.before.before.before.before.before.before.before.before.before.if1.false))
-    (sym (not_false _ c.before.before.if2.false) ∙ c.before.before.before.tree-fits.ensures) c.vertices-stand.ensures
+    (sym (not-false _ c.before.before.if2.false) ∙ c.before.before.before.tree-fits.ensures) c.vertices-stand.ensures
 
 pub parts-fit-spec : {M : Type 1} → statement M
 parts-fit-spec =

@@ -8,7 +8,7 @@ use Rattle.part_words.proofs.Fits.{read_of, read_inside}
 use Rattle.row_lists.proofs.Rows.{fits_out, apart_named}
 use Rattle.row_distances.proofs.Relaxing.{closer_asked}
 use Rattle.part_keys.specs.Keys.{far_count}
-use Rattle.part_bounds.proofs.Opening.{spread_kept, spread_from, not_true, not_false, known_kept, spread_asked, spread_listed, opened_of}
+use Rattle.part_bounds.proofs.Opening.{spread_kept, spread_from, not-true, not-false, known_kept, spread_asked, spread_listed, opened_of}
 use borrow.Author.Rules.{rules}
 use Rattle.part_bounds.proofs.open_up.Statement.{statement}
 use Rattle.part_bounds.proofs.open_up.Tie as tie
@@ -71,8 +71,8 @@ returns c =
           (elim spread-before [
             | inl t ↦
                 spread_listed args'.all listed (spread_kept _ (known_kept args'.all listed apart closer) (t.5.ensures args'.dx.now listed.nears))
-                (spread_from t.6 t.7 t.8 spread) (not_true args'.all t.0.taken)
-            | inr t ↦ spread_asked args'.all listed apart (not_false args'.all t.0.left) (spread_from t.1 t.2 t.3 spread)
+                (spread_from t.6 t.7 t.8 spread) (not-true args'.all t.0.taken)
+            | inr t ↦ spread_asked args'.all listed apart (not-false args'.all t.0.left) (spread_from t.1 t.2 t.3 spread)
           ]),
     )
 

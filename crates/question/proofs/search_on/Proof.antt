@@ -4,7 +4,7 @@ use mathlib.Core.Path.{◌≡◌, refl, sym, ◌∙◌}
 use mathlib.Core.Bool.{true, false}
 use Prim.Native.Nat.{ℕ, ◌+◌, ◌≤◌, ◌<◌}
 use lib.ListN.{length}
-use borrow.Author.Tests.{not_true, not_false}
+use borrow.Author.Tests.{not-true, not-false}
 use Rattle.roads.specs.Map.{Map}
 use Rattle.fleet.specs.State.{State}
 use Rattle.part_keys.specs.Keys.{far_count}
@@ -34,7 +34,7 @@ turn-requires c κs =
 loop-less : tie.Need-loop-smaller invariant-loop decreases-loop
 loop-less c =
     let at-if1 = c.before.before.before.before.before.before.before.before.before.before.before in
-    less_left at-if1.before.before.loop.st.ended c.before.before.turn.result.ended _ _ (not_true _ at-if1.if1.true) c.before.before.turn.ensures.shrunk.shrinks
+    less_left at-if1.before.before.loop.st.ended c.before.before.turn.result.ended _ _ (not-true _ at-if1.if1.true) c.before.before.turn.ensures.shrunk.shrinks
 
 loop-again : tie.Need-loop-preserved invariant-loop decreases-loop
 loop-again c =
@@ -44,14 +44,14 @@ loop-again c =
     let start = at-loop.before.before.before in (
       stands_still at-loop.loop.invariant.0 at_turn.turn.ensures,
       search rules,
-      on_and_on _ _ _ _ _ _ _ start.args.s _ _ _ _ _ at-loop.loop.st _ _ _ _ _ at_turn.turn.result (not_true _ at-if1.if1.true) at-loop.loop.invariant.2 at_turn.turn.ensures,
+      on_and_on _ _ _ _ _ _ _ start.args.s _ _ _ _ _ at-loop.loop.st _ _ _ _ _ at_turn.turn.result (not-true _ at-if1.if1.true) at-loop.loop.invariant.2 at_turn.turn.ensures,
     )
 
 same_length : tie.Need-same-length invariant-loop decreases-loop
 same_length c = c.before.before.loop.invariant.1
 
 returns : tie.Need-returns invariant-loop decreases-loop
-returns c = (c.before.before.loop.invariant.0.few, λ m fleet x g hx start. (c.before.before.loop.invariant.2 m fleet x g hx start).1 (not_false _ c.if1.false))
+returns c = (c.before.before.loop.invariant.0.few, λ m fleet x g hx start. (c.before.before.loop.invariant.2 m fleet x g hx start).1 (not-false _ c.if1.false))
 
 pub search-on-spec : {M : Type 1} → statement M
 search-on-spec =

@@ -3,7 +3,7 @@ use mathlib.Core.Path.{refl, sym}
 use mathlib.Core.Bool.{true≢false}
 use native.Mathlib.Omega.{arith}
 use borrow.Author.Rules.{rules}
-use borrow.Author.Tests.{not_true, not_false}
+use borrow.Author.Tests.{not-true, not-false}
 use Rattle.road_search_c.proofs.Tests.{yes_so, not_so}
 use Rattle.road_search_c.proofs.hailtrellis_road_search.Statement.{statement}
 use Rattle.road_search_c.proofs.hailtrellis_road_search.Tie as tie
@@ -11,7 +11,7 @@ use Rattle.road_search_c.proofs.hailtrellis_road_search.Tie as tie
 returns : tie.Need-returns
 returns c =
     record {
-      ran = not_so (λ so. c.before.laid.ensures.fails (not_true _ c.if1.true) so.0);
+      ran = not_so (λ so. c.before.laid.ensures.fails (not-true _ c.if1.true) so.0);
       measured = λ e. absurd (true≢false (sym e));
       kept = λ _. refl;
     }
@@ -27,13 +27,13 @@ returns-2 c =
 distances-requires : tie.Need-distances-requires
 distances-requires c κs =
     let passed = c.before.before in
-    (passed.before.laid.ensures.holds (not_false _ passed.if1.false), c.before.if2.false)
+    (passed.before.laid.ensures.holds (not-false _ passed.if1.false), c.before.if2.false)
 
 returns-3 : tie.Need-returns-3
 returns-3 c =
     let passed = c.before.before.before in
     record {
-      ran = yes_so (passed.before.laid.ensures.holds (not_false _ passed.if1.false), c.before.before.if2.false);
+      ran = yes_so (passed.before.laid.ensures.holds (not-false _ passed.if1.false), c.before.before.if2.false);
       measured = λ _. c.distances.ensures;
       kept = λ e. absurd (true≢false e);
     }
