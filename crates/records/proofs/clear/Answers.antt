@@ -22,7 +22,7 @@ loop-i-preserved c =
     let loop = c.loop-i in
     let loop-test = c.loop-i-test in
     let put = c.put in
-    (clearing_more args.mem.now wide.result wide2.result loop.mem _ loop.i loop-test.true loop.invariant.0 put.ensures, put.auto.0 ∙ loop.invariant.1)
+    (clearing_more args.mem.now wide.result wide2.result loop.mem _ loop.i loop-test.true loop.invariant.0 put.ensures, put.auto.mem ∙ loop.invariant.1)
 
 pub returns : goal.returns
 returns c =
