@@ -2,12 +2,11 @@
 -- Assumes nothing.
 use mathlib.Core.Path.{sym, ◌∙◌}
 use native.Mathlib.Omega.{arith}
-use borrow.Author.Rules.{rules}
 use Rattle.best_list.proofs.Pass.{limit_room, limit_full}
 use Rattle.best_list.proofs.limit_of.Goals as goal
 
 pub returns-then-len-k : goal.returns-then-len-k
-returns-then-len-k c = λ stampOf vans enough. sym (limit_room stampOf _ _ _ _ (omega (arith, c.far_at-arg-1.given)) enough c.if-len-k.true)
+returns-then-len-k c = λ stampOf vans enough. sym (limit_room stampOf _ _ _ _ (omega arith) enough c.if-len-k.true)
 
 pub returns : goal.returns
-returns c = λ stampOf vans enough. c.far_at-last.ensures ∙ sym (limit_full stampOf _ _ _ _ (omega (arith, c.far_at-arg-1.given)) enough c.if-len-k.false (omega arith))
+returns c = λ stampOf vans enough. c.far_at-last.ensures ∙ sym (limit_full stampOf _ _ _ _ (omega arith) enough c.if-len-k.false (omega arith))

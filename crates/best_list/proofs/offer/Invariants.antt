@@ -1,8 +1,5 @@
-use Prim.Native.Nat.{ℕ, ◌-◌, ◌≤◌, ◌<◌}
-use mathlib.Core.Path.{sym, ◌∙◌, subst}
-use mathlib.Core.Logic.{inl, inr}
-use native.Mathlib.Omega.{arith}
-use Rattle.best_list.proofs.Pass.{Passing, start_at, turn_in, turn_past, order_left, room_left, no_room_left, offer_beyond, offer_within}
+use Prim.Native.Nat.{◌-◌}
+use Rattle.best_list.proofs.Pass.{Passing}
 use Rattle.best_list.proofs.offer.Given as goal
 
 abbrev pub invariant-loop-i : goal.invariant-loop-i
