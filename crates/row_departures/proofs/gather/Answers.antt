@@ -1,10 +1,6 @@
 -- `row_departures::gather` is `gathered`: what is left to gather from here stays the whole.
-use mathlib.Core.Path.{◌≡◌, refl, sym, ◌∙◌}
-use Prim.Native.Nat.{◌-◌, ◌≤◌}
-use lib.ListN.{length, drop}
-use Rattle.row_departures.specs.Departure.{far_key, gathered}
+use mathlib.Core.Path.{sym, ◌∙◌}
 use Rattle.row_departures.proofs.Keys.{gathered_turn, gathered_done}
-use borrow.Author.Rules.{rules}
 use native.Mathlib.Omega.{arith}
 use Rattle.row_departures.proofs.gather.Goals as goal
 

@@ -1,16 +1,12 @@
 -- `row_departures::list_sources` lists the keys and steps of `filled`: what counts so far and what is left to look at stays the whole.
-use mathlib.Core.Path.{◌≡◌, refl, ◌∙◌, ap}
-use mathlib.Core.List.{◌++◌, map}
-use Prim.Native.Nat.{◌+◌, ◌-◌, ◌*◌, ◌≤◌}
-use lib.ListN.{length, take}
+use mathlib.Core.Path.{refl, ◌∙◌, ap}
+use Prim.Native.Nat.{◌+◌, ◌-◌, ◌*◌}
 use lib.Dec.{ltb}
 use Rattle.words.specs.Limits.{FAR}
-use Rattle.words.specs.Lists.{count_from, keep}
 use Rattle.rows.specs.declared.Row.{Row}
 use Rattle.row_words.specs.Words.{source_in}
 use Rattle.row_departures.specs.Departure.{filled, keyed, source_key}
-use Rattle.row_departures.specs.Departure.{Small}
-use Rattle.listing.proofs.Turns.{listed_first, listed_turn, listed_done}
+use Rattle.listing.proofs.Turns.{listed_first, listed_turn}
 use Rattle.row_departures.proofs.Listed.{small_turn, step_turn}
 use borrow.Author.Rules.{rules}
 use native.Mathlib.Omega.{arith}

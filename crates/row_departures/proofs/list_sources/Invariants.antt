@@ -1,17 +1,13 @@
-use mathlib.Core.Path.{◌≡◌, refl, ◌∙◌, ap}
+use mathlib.Core.Path.{◌≡◌}
 use mathlib.Core.List.{◌++◌, map}
 use Prim.Native.Nat.{◌+◌, ◌-◌, ◌*◌, ◌≤◌}
 use lib.ListN.{length, take}
 use lib.Dec.{ltb}
 use Rattle.words.specs.Limits.{FAR}
 use Rattle.words.specs.Lists.{count_from, keep}
-use Rattle.rows.specs.declared.Row.{Row}
 use Rattle.row_words.specs.Words.{source_in}
-use Rattle.row_departures.specs.Departure.{filled, keyed, source_key}
+use Rattle.row_departures.specs.Departure.{filled, source_key}
 use Rattle.row_departures.specs.Departure.{Small}
-use Rattle.listing.proofs.Turns.{listed_first, listed_turn, listed_done}
-use Rattle.row_departures.proofs.Listed.{small_turn, step_turn}
-use native.Mathlib.Omega.{arith}
 use Rattle.row_departures.proofs.list_sources.Given as goal
 
 abbrev pub invariant-loop-i : goal.invariant-loop-i

@@ -1,8 +1,5 @@
 -- `row_departures::renew_all` is `renewed`: what is left to make anew from here stays the whole.
-use mathlib.Core.Path.{◌≡◌, refl, sym, ◌∙◌}
-use Prim.Native.Nat.{◌-◌, ◌≤◌}
-use lib.ListN.{length, drop}
-use Rattle.row_departures.specs.Departure.{renewed}
+use mathlib.Core.Path.{sym, ◌∙◌}
 use Rattle.row_departures.proofs.Keys.{renewed_turn, renewed_done}
 use borrow.Author.Rules.{rules}
 use native.Mathlib.Omega.{arith}

@@ -1,9 +1,7 @@
-use mathlib.Core.Path.{◌≡◌, refl, sym, ◌∙◌}
+use mathlib.Core.Path.{◌≡◌}
 use Prim.Native.Nat.{◌-◌, ◌≤◌}
 use lib.ListN.{length, drop}
 use Rattle.row_departures.specs.Departure.{renewed}
-use Rattle.row_departures.proofs.Keys.{renewed_turn, renewed_done}
-use native.Mathlib.Omega.{arith}
 use Rattle.row_departures.proofs.renew_all.Given as goal
 
 abbrev pub invariant-loop-k : goal.invariant-loop-k

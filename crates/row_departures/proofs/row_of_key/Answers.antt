@@ -1,7 +1,6 @@
 -- `row_departures::row_of_key` is `unkeyed`.
 use mathlib.Core.Path.{refl}
 use Rattle.row_departures.proofs.Keys.{key_near, key_far}
-use borrow.Author.Rules.{rules}
 use Rattle.row_departures.proofs.row_of_key.Goals as goal
 
 pub returns-then-key-lt-FAR_KEY : goal.returns-then-key-lt-FAR_KEY
