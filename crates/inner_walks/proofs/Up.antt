@@ -71,7 +71,7 @@ module _ (m : Map) (net : Net m) (tree : Tree m) where
           (halts v b hv hb).1,
           C.child c a v u hc ha hv begun,
           C.road (record { from = v; to = t; weight = w }) road hv ht,
-          part_least e next.1 ht hb (rest next.2) later,
+          part_least e {c = next.0} next.1 ht hb (rest next.2) later,
         ))
         (true_or_false (holds m c t))
 
