@@ -1,18 +1,10 @@
-use mathlib.Core.Path.{◌≡◌, refl, sym, ap, ◌∙◌}
-use Prim.Native.Nat.{ℕ, ◌+◌, ◌-◌, ◌*◌, ◌%◌, ◌≤◌, ◌<◌}
-use native.Mathlib.Omega.{arith}
-use lib.ListN.{length, set, length-set}
-use Rattle.words.specs.Lists.{word}
+use mathlib.Core.Path.{◌≡◌}
+use Prim.Native.Nat.{◌+◌, ◌-◌, ◌≤◌}
+use lib.ListN.{length}
 use Rattle.listing.specs.Lists.{Among}
 use Rattle.row_lists.specs.Rows.{Apart}
 use Rattle.row_distances.specs.Distances.{Closer}
 use Rattle.part_keys.specs.Keys.{far_count, Spread}
-use Rattle.row_distances.proofs.Ways.{over_row}
-use Rattle.row_lists.proofs.Rows.{row_fits, cut_row, rows_fit, row_read}
-use Rattle.row_distances.proofs.Relaxing.{asked_within, known_few, closer_none, closer_next, closer_count}
-use Rattle.part_keys.proofs.Spreading.{key_read}
-use Rattle.part_keys.proofs.Spreading.{total_more, spread_none, spread_more, spread_all}
-use Rattle.part_bounds.proofs.Opening.{spread_kept, as_lowered, way_is_near, before_kept}
 use Rattle.part_bounds.proofs.relax_spread.Given as goal
 
 abbrev pub invariant-loop-t : goal.invariant-loop-t
