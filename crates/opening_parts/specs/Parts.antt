@@ -1,5 +1,5 @@
 -- The parts from number p on, written into their section.
-use Rattle.std.specs.Prelude.{◌≡◌, List, [], ◌∷◌, ℕ, ◌+◌, ◌*◌, ◌≤◌, ◌<◌, length}
+use Rattle.std.specs.Prelude.{◌≡◌, List, [], ◌∷◌, ℕ, ◌≤◌, ◌<◌, length}
 use Rattle.words.specs.Limits.{most_parts, NONE}
 use Rattle.words.specs.Lists.{word}
 use Rattle.layout.specs.Layout.{words_in_part, parts_at, vertices_from}
