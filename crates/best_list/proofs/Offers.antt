@@ -19,7 +19,7 @@ use Rattle.words.specs.Lists.{keep}
 use Rattle.words.proofs.Tests.{true_or_false}
 use Rattle.words.proofs.Lists.{keep_says, keep_has, take_from}
 use Rattle.fleet.specs.Question.{Listed, listed_before, insert, sorted}
-use Rattle.fleet.proofs.Sorted.{before_near, before_says, before_if, insert_has, insert_keeps, insert_from, insert_sorted, Later, Sorted, none, more, sorted_keeps, sorted_from, Distinct, sorted_sorted, take_sorted}
+use Rattle.fleet.proofs.Sorted.{before_near, before_says, before_if, insert_has, insert_keeps, insert_from, insert_sorted, Later, Sorted, more, sorted_keeps, sorted_from, Distinct, sorted_sorted, take_sorted}
 use Rattle.best_list.specs.Best.{listed, pass, limit_of, offered, offered_all}
 
 -- no entry stands before itself, and of two only one before the other
@@ -134,9 +134,9 @@ still_apart {l} {e} differ apart d b hd hb =
 
 insert_all_sorted : {l es : List Listed} → Sorted l → Distinct es → ((e b : Listed) → Memᴰ e es → Memᴰ b l → e.van ≢ b.van) → Sorted (insert_all l es)
 unfolding insert_all
-insert_all_sorted sort Distinct.none apart = sort
+insert_all_sorted {l} sort Distinct.none apart = sort
 insert_all_sorted {l} sort (Distinct.more {a = e} {bs = es} differ rest) apart =
-    insert_all_sorted (insert_sorted e sort (λ b h. apart e b (Memᴰ.head refl) h)) rest
+    insert_all_sorted {l = insert e l} (insert_sorted e sort (λ b h. apart e b (Memᴰ.head refl) h)) rest
     (still_apart differ apart)
 
 insert_all_has : (l es : List Listed) (c : Listed) → Memᴰ c l ⊎ Memᴰ c es → Memᴰ c (insert_all l es)
@@ -163,11 +163,11 @@ insert_all_from l (e ∷ es) c h =
 offer_all : (k : ℕ) {l es : List Listed} → 1 ≤ k → Sorted l → Distinct es → ((e : Listed) → Memᴰ e es → e.distance < FAR)
     → ((e b : Listed) → Memᴰ e es → Memᴰ b l → e.van ≢ b.van) → offered_all k (take k l) es ≡ take k (insert_all l es)
 unfolding offered_all insert_all
-offer_all k some sort Distinct.none near apart = refl
+offer_all k {l} some sort Distinct.none near apart = refl
 offer_all k {l} some sort (Distinct.more {a = e} {bs = es} differ rest) near apart =
     ap (λ (r : List Listed). offered_all k r es)
     (offered_is k e (take k l) (take_sorted k sort) (omega (arith, length-take k l)) some (near e (Memᴰ.head refl)) ∙ offer_cut k e l)
-    ∙ offer_all k some (insert_sorted e sort (λ b h. apart e b (Memᴰ.head refl) h)) rest (λ d h. near d (Memᴰ.tail h))
+    ∙ offer_all k {l = insert e l} some (insert_sorted e sort (λ b h. apart e b (Memᴰ.head refl) h)) rest (λ d h. near d (Memᴰ.tail h))
     (still_apart differ apart)
 
 -- The start of a list in order.

@@ -1,6 +1,6 @@
 -- The test road by road is the test `roads_fit` of the map that shows these roads.
 -- Assumes nothing.
-use mathlib.Core.Path.{◌≡◌, refl, sym, ap, ap₂, ◌∙◌}
+use mathlib.Core.Path.{◌≡◌, sym, ap, ap₂, ◌∙◌}
 use mathlib.Core.Bool.{Bool, ◌&&◌, ◌||◌}
 use mathlib.Core.List.{List}
 use Prim.Native.Nat.{ℕ, ◌+◌, ◌*◌, ◌-◌, ◌<◌}
@@ -9,7 +9,7 @@ use lib.ListN.{length, get_or}
 use lib.Dec.{eqb}
 use Rattle.words.specs.Lists.{up_to, all}
 use Rattle.words.proofs.Tested.{all_both, all_map, all_counted}
-use Rattle.roads.specs.Map.{Road, Map, road_count, road_at, no_road}
+use Rattle.roads.specs.Map.{Road, Map, road_at, no_road}
 use Rattle.maps.specs.Bytes.{field, road_shown, roads_of}
 use Rattle.maps.specs.Rules.{road_fits, road_before, rises, roads_fit}
 use Rattle.maps.proofs.Judged.{roads_length, road_is}

@@ -9,7 +9,7 @@ ghost use Rattle.map_roads.specs.Road.{road, road_test};
 
 use map_bytes::{number2, number4};
 
-#[derive(Drop)]
+#[derive(Clone, Copy)]
 pub struct Road {
     pub from: u32,
     pub to: u32,

@@ -8,7 +8,7 @@ ghost use Rattle.packs.specs.Pack.{ItemStands};
 use map_bytes::number4;
 
 // The bytes from `start` to `end`, where the pack holds them whole; else what is left of it, and none of its bytes.
-#[derive(Drop)]
+#[derive(Clone, Copy)]
 pub struct Item {
     pub start: usize,
     pub end: usize,
