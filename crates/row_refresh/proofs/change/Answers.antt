@@ -1,7 +1,6 @@
 -- `row_refresh::change` is `changed`, and says `touches`.
 use Rattle.row_refresh.proofs.Chain.{changed_none}
 use Rattle.listing.proofs.Turns.{listed_count}
-use borrow.Author.Rules.{rules}
 use native.Mathlib.Omega.{arith}
 use Rattle.row_refresh.proofs.change.Goals as goal
 

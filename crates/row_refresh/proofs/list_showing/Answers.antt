@@ -1,11 +1,8 @@
 -- `row_refresh::list_showing` is `showing`: what counts so far and what is left to look at stays the whole.
-use mathlib.Core.Path.{◌≡◌, refl, ◌∙◌, ap}
-use mathlib.Core.List.{◌++◌}
-use Prim.Native.Nat.{ℕ, ◌+◌, ◌-◌, ◌*◌, ◌≤◌}
-use lib.ListN.{length, take}
-use Rattle.words.specs.Lists.{count_from, keep}
+use mathlib.Core.Path.{refl, ◌∙◌, ap}
+use Prim.Native.Nat.{ℕ, ◌+◌, ◌-◌, ◌*◌}
 use Rattle.row_refresh.specs.Model.{shows_in, showing}
-use Rattle.listing.proofs.Turns.{numbers_turn, numbers_done}
+use Rattle.listing.proofs.Turns.{numbers_turn}
 use borrow.Author.Rules.{rules}
 use native.Mathlib.Omega.{arith}
 use Rattle.row_refresh.proofs.list_showing.Goals as goal

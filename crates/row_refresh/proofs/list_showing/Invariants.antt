@@ -1,11 +1,9 @@
-use mathlib.Core.Path.{◌≡◌, refl, ◌∙◌, ap}
+use mathlib.Core.Path.{◌≡◌}
 use mathlib.Core.List.{◌++◌}
-use Prim.Native.Nat.{ℕ, ◌+◌, ◌-◌, ◌*◌, ◌≤◌}
+use Prim.Native.Nat.{◌+◌, ◌*◌, ◌≤◌}
 use lib.ListN.{length, take}
 use Rattle.words.specs.Lists.{count_from, keep}
 use Rattle.row_refresh.specs.Model.{shows_in, showing}
-use Rattle.listing.proofs.Turns.{numbers_turn, numbers_done}
-use native.Mathlib.Omega.{arith}
 use Rattle.row_refresh.proofs.list_showing.Given as goal
 
 abbrev pub invariant-loop-left : goal.invariant-loop-left

@@ -3,7 +3,6 @@ use mathlib.Core.Path.{refl, ap}
 use lib.Dec.{eqb}
 use Rattle.rows.specs.declared.Row.{Row}
 use Rattle.row_refresh.specs.Model.{shows_in}
-use borrow.Author.Rules.{rules}
 use Rattle.row_refresh.proofs.shows.Goals as goal
 
 pub returns-then-below : goal.returns-then-below

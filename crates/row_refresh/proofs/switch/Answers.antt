@@ -1,7 +1,6 @@
 -- `row_refresh::switch` is `switched`.
 use mathlib.Core.Path.{refl}
 use Rattle.row_refresh.proofs.Chain.{switched_is}
-use borrow.Author.Rules.{rules}
 use Rattle.row_refresh.proofs.switch.Goals as goal
 
 pub returns : goal.returns
