@@ -5,7 +5,7 @@ ghost use Rattle.std.specs.Prelude.{◌≡◌};
 ghost use Rattle.fleet.specs.Change.{number_of, value_of};
 ghost use Rattle.answers.specs.Answered.{answered};
 
-#[derive(Drop)]
+#[derive(Clone, Copy)]
 pub enum Reply {
     // with the new stamp, the length of the list, the start number, or 0 for a road
     Accepted(u32),

@@ -5,7 +5,6 @@ use mathlib.Core.Logic.{◌≢◌}
 use mathlib.Core.List.{List}
 use Prim.Native.Nat.{ℕ, ◌+◌, ◌*◌, ◌<◌}
 use native.Mathlib.Omega.{arith}
-use lib.ListN.{get_or}
 use Rattle.layout.specs.Layout.{size_in_part, rows_in_part, table_in_part, words_in_row, own_in_row, child_in_row, below_in_row, part_word, row_word}
 use Rattle.roads.specs.Map.{Map, part_count}
 use Rattle.parts.specs.Size.{size_of}

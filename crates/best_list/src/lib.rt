@@ -7,7 +7,7 @@ ghost use Rattle.words.specs.Lists.{word};
 ghost use Rattle.fleet.specs.Question.{listed_before};
 ghost use Rattle.best_list.specs.Best.{listed, entries, limit_of, offered, InOrder, BeforeNone};
 
-#[derive(Drop)]
+#[derive(Clone, Copy)]
 pub struct BestList {
     pub fars: [u32; 32],
     pub vans: [u32; 32],

@@ -3,133 +3,143 @@
 // prints for the same inputs must come out.
 #![tactic(auto)]
 
-ghost use Rattle.std.specs.Prelude.{◌<◌, ◌≤◌, length};
+ghost use Rattle.std.specs.Prelude.{◌<◌, ◌≤◌, IfOk, length};
 
 use cells::{wide, word};
 use desk_steps::{begin, turn};
-use libc::STDOUT_FILENO;
 use packs::{item_at, read_file};
+use std::io;
+use std::rt::Files;
 
 // How far an input is looked at, and whether its last line is written.
-#[derive(Drop)]
+#[derive(Clone, Copy)]
 struct State {
     at: usize,
     over: bool,
 }
 
-fn write_lines(out: &[u8], end: usize)
+fn write_lines(rt: &impl Print, out: &[u8], end: usize) -> io::Result<()>
     requires { end ≤ length out.now }
 {
-    io::write_all(STDOUT_FILENO, &out[..end]);
+    rt.write_all(&out[..end])
 }
 
-fn write_row(vertex: u32, distance: u32) {
-    io::write_all(STDOUT_FILENO, b" ");
-    io::print_decimal(STDOUT_FILENO, vertex as u64);
-    io::write_all(STDOUT_FILENO, b":");
-    io::print_decimal(STDOUT_FILENO, distance as u64);
+fn write_row(rt: &impl Print, vertex: u32, distance: u32) -> io::Result<()> {
+    print!(rt; " {vertex}:{distance}")
 }
 
 // All rows: from the first row of the root to the end of the words used, four words each.
-fn write_rows(memory: &[u32; 16384], place: u32) {
-    io::print_decimal(STDOUT_FILENO, place as u64);
-    io::write_all(STDOUT_FILENO, b" rows");
+fn write_rows(rt: &impl Print, memory: &[u32; 16384], place: u32) -> io::Result<()> {
+    print!(rt; "{place} rows")?;
     let used = wide(word(memory, 1));
     let mut at = wide(word(memory, 66));
     while at < 16384 {
         if at < used {
-            write_row(word(memory, at), word(memory, at + 1));
+            write_row(rt, word(memory, at), word(memory, at + 1))?;
         }
         at += 4;
     }
-    io::write_all(STDOUT_FILENO, b"\n");
+    println!(rt; "")
 }
 
 // The record for `place`. An accepted change is counted in the sixth word.
-fn step(memory: &mut [u32; 16384], input: &[u8], at: usize, place: u32, rows: bool) -> State
+fn step(
+    rt: &impl Print,
+    memory: &mut [u32; 16384],
+    input: &[u8],
+    at: usize,
+    place: u32,
+    rows: bool,
+) -> io::Result<State>
     requires { (at ≤ length input.now) × (1 ≤ place) }
-    ensures { result.at ≤ length input.now }
+    ensures { IfOk result (λ state. state.at ≤ length input.now) }
 {
     let mut answer = [0u32; 96];
     let mut out = [0u8; 2048];
     let changes = word(memory, 5);
     let next = turn(&input[at..], memory, &mut answer, &mut out, 0, place);
-    write_lines(&out, next.end);
+    write_lines(rt, &out, next.end)?;
     if rows {
         if word(memory, 5) != changes {
-            write_rows(memory, place);
+            write_rows(rt, memory, place)?;
         }
     }
-    State {
+    Ok(State {
         at: at + next.taken,
         over: next.over,
-    }
+    })
 }
 
 // The calls, after an accepted opening.
-fn calls(memory: &mut [u32; 16384], input: &[u8], start: usize, rows: bool)
+fn calls(
+    rt: &impl Print,
+    memory: &mut [u32; 16384],
+    input: &[u8],
+    start: usize,
+    rows: bool,
+) -> io::Result<()>
     requires { start ≤ length input.now }
 {
     let mut at = start;
     for place in 1..=1000001 {
-        let next = step(memory, input, at, place, rows);
+        let next = step(rt, memory, input, at, place, rows)?;
         if next.over {
-            return;
+            return Ok(());
         }
         at = next.at;
     }
+    Ok(())
 }
 
-fn run_input(input: &[u8], rows: bool) {
+fn run_input(rt: &impl Print, input: &[u8], rows: bool) -> io::Result<()> {
     let mut memory = [0u32; 16384];
     let mut out = [0u8; 2048];
     let opened = begin(input, &mut memory, &mut out);
-    write_lines(&out, opened.end);
+    write_lines(rt, &out, opened.end)?;
     if opened.over {
-        return;
+        return Ok(());
     }
     if rows {
-        write_rows(&memory, 0);
+        write_rows(rt, &memory, 0)?;
     }
-    calls(&mut memory, input, opened.taken, rows);
+    calls(rt, &mut memory, input, opened.taken, rows)
 }
 
 // Runs the input at `at`, and gives the place after it.
-fn run_entry(pack: &[u8], at: usize, rows: bool) -> usize
+fn run_entry(rt: &impl Print, pack: &[u8], at: usize, rows: bool) -> io::Result<usize>
     requires { at < length pack.now }
-    ensures { (at < result) × (result ≤ length pack.now) }
+    ensures { IfOk result (λ after. (at < after) × (after ≤ length pack.now)) }
 {
     let item = item_at(pack, at);
     let start = item.start;
     let end = item.end;
     if item.whole {
-        run_input(&pack[start..end], rows);
+        run_input(rt, &pack[start..end], rows)?;
     } else {
-        io::write_all(STDOUT_FILENO, b"cut\n");
+        println!(rt; "cut")?;
     }
-    end
+    Ok(end)
 }
 
-fn run_pack(group: &[u8], pack: &[u8], rows: bool) {
+fn run_pack(rt: &impl Print, group: &[u8], pack: &[u8], rows: bool) -> io::Result<()> {
     let mut at = 0;
     let mut index: u64 = 0;
     while at < pack.len() {
-        io::write_all(STDOUT_FILENO, group);
-        io::write_all(STDOUT_FILENO, b" ");
-        io::print_decimal(STDOUT_FILENO, index);
-        io::write_all(STDOUT_FILENO, b"\n");
-        at = run_entry(pack, at, rows);
+        rt.write_all(group)?;
+        println!(rt; " {index}")?;
+        at = run_entry(rt, pack, at, rows)?;
         index += 1;
     }
+    Ok(())
 }
 
-fn run_file(group: &[u8], path: &[u8], rows: bool) {
+fn run_file(rt: &(impl Files + Print), group: &[u8], path: &[u8], rows: bool) -> io::Result<()> {
     let mut pack = [0u8; 262144];
-    let n = read_file(path, &mut pack);
-    run_pack(group, &pack[..n], rows);
+    let n = read_file(rt, path, &mut pack)?;
+    run_pack(rt, group, &pack[..n], rows)
 }
 
-fn main() {
-    run_file(b"stored", b"stored.pack", false);
-    run_file(b"rows", b"rows.pack", true);
+fn main(rt: HostRuntime) -> io::Result<()> {
+    run_file(&rt, b"stored", b"stored.pack", false)?;
+    run_file(&rt, b"rows", b"rows.pack", true)
 }

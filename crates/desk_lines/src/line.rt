@@ -4,7 +4,7 @@ ghost use Rattle.desk_lines.specs.Line.{codes, digits, decimal, text_of};
 ghost use Rattle.desk_lines.specs.Written.{Wrote, one_text, three_text};
 
 // A line but for its text: each starts with the place of its call, the opening being 0.
-#[derive(Drop)]
+#[derive(Clone, Copy)]
 pub enum Line {
     Opened {
         vertices: u32,

@@ -15,7 +15,7 @@ pub const OPENING_BYTES: usize = 10;
 // Bytes of the longest call's record.
 pub const LONGEST_CALL: usize = 16;
 
-#[derive(Drop)]
+#[derive(Clone, Copy)]
 pub enum Taken {
     // The length fields ask for more than the room.
     TooLong,
@@ -23,21 +23,21 @@ pub enum Taken {
     UpTo(usize),
 }
 
-#[derive(Drop)]
+#[derive(Clone, Copy)]
 pub enum Call {
     Changes(Change),
     Asks { vertex: u32, k: u32 },
 }
 
 // What a record's kind and body ask for.
-#[derive(Drop)]
+#[derive(Clone, Copy)]
 pub enum Request {
     Bad,
     Is(Call),
 }
 
 // The next record where a call is to come.
-#[derive(Drop)]
+#[derive(Clone, Copy)]
 pub enum Turn {
     // There are no bytes left.
     Over,
@@ -48,7 +48,7 @@ pub enum Turn {
 }
 
 // The opening record.
-#[derive(Drop)]
+#[derive(Clone, Copy)]
 pub enum Opening {
     Bad,
     Start(u32),

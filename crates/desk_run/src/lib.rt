@@ -12,7 +12,7 @@ ghost use Rattle.desk_run.specs.Desk.{fresh_desk, needed_at, Fed, filled_desk, e
 use desk_lines::{LONGEST_CALL, MAP_ROOM, OPENING_BYTES};
 use desk_steps::{STEP_BYTES, Step, begin, turn};
 
-#[derive(Drop)]
+#[derive(Clone, Copy)]
 pub struct Desk {
     // The window's bytes from `from` to `to` are read and not looked at yet.
     pub from: usize,

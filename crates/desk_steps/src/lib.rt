@@ -25,7 +25,7 @@ const MOST_CALLS: u32 = 1000000;
 pub const STEP_BYTES: usize = 2048;
 
 // How many bytes a step takes, where its lines end, and whether the last line is among them.
-#[derive(Drop)]
+#[derive(Clone, Copy)]
 pub struct Step {
     pub taken: usize,
     pub end: usize,

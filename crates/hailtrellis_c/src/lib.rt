@@ -10,7 +10,7 @@ ghost use Rattle.hailtrellis_c.specs.Replied.{reply_of, Replied};
 use answers::Reply;
 
 #[repr(C)]
-#[derive(Drop)]
+#[derive(Clone, Copy)]
 pub struct HailtrellisReply {
     pub code: u32,
     pub value: u32,

@@ -3,77 +3,78 @@
 // must come out.
 #![tactic(auto)]
 
-ghost use Rattle.std.specs.Prelude.{◌<◌, ◌≤◌, length};
+ghost use Rattle.std.specs.Prelude.{◌<◌, ◌≤◌, IfOk, length};
 
-use libc::STDOUT_FILENO;
 use map_judge::{Judgement, judge_map};
 use packs::{item_at, read_file};
+use std::io;
+use std::rt::Files;
 
-fn write_number(n: u64) {
-    io::write_all(STDOUT_FILENO, b" ");
-    io::print_decimal(STDOUT_FILENO, n);
+fn write_number(rt: &impl Print, n: u64) -> io::Result<()> {
+    print!(rt; " {n}")
 }
 
-fn write_judgement(judgement: Judgement) {
+fn write_judgement(rt: &impl Print, judgement: Judgement) -> io::Result<()> {
     match judgement {
         Judgement::Sound(counts, need) => {
-            io::write_all(STDOUT_FILENO, b" sound");
-            write_number(counts.vertices as u64);
-            write_number(counts.roads as u64);
-            write_number(counts.parts as u64);
-            write_number(need as u64);
+            print!(rt; " sound")?;
+            write_number(rt, counts.vertices as u64)?;
+            write_number(rt, counts.roads as u64)?;
+            write_number(rt, counts.parts as u64)?;
+            write_number(rt, need as u64)?;
         }
         Judgement::Refused(reply) => {
-            io::write_all(STDOUT_FILENO, b" refused");
-            write_number(reply.number() as u64);
+            print!(rt; " refused")?;
+            write_number(rt, reply.number() as u64)?;
         }
     }
-    io::write_all(STDOUT_FILENO, b"\n");
+    println!(rt; "")
 }
 
 // Judges the map at `at`, and gives the place after it.
-fn judge_entry(pack: &[u8], at: usize) -> usize
+fn judge_entry(rt: &impl Print, pack: &[u8], at: usize) -> io::Result<usize>
     requires { at < length pack.now }
-    ensures { (at < result) × (result ≤ length pack.now) }
+    ensures { IfOk result (λ after. (at < after) × (after ≤ length pack.now)) }
 {
     let item = item_at(pack, at);
     let start = item.start;
     let end = item.end;
     if item.whole {
-        write_judgement(judge_map(&pack[start..end]));
+        write_judgement(rt, judge_map(&pack[start..end]))?;
     } else {
-        io::write_all(STDOUT_FILENO, b" cut\n");
+        println!(rt; " cut")?;
     }
-    end
+    Ok(end)
 }
 
-fn judge_pack(group: &[u8], pack: &[u8]) {
+fn judge_pack(rt: &impl Print, group: &[u8], pack: &[u8]) -> io::Result<()> {
     let mut at = 0;
     let mut index: u64 = 0;
     while at < pack.len() {
-        io::write_all(STDOUT_FILENO, group);
-        write_number(index);
-        at = judge_entry(pack, at);
+        rt.write_all(group)?;
+        write_number(rt, index)?;
+        at = judge_entry(rt, pack, at)?;
         index += 1;
     }
+    Ok(())
 }
 
-fn judge_file(group: &[u8], path: &[u8]) {
+fn judge_file(rt: &(impl Files + Print), group: &[u8], path: &[u8]) -> io::Result<()> {
     let mut pack = [0u8; 262144];
-    let n = read_file(path, &mut pack);
-    judge_pack(group, &pack[..n]);
+    let n = read_file(rt, path, &mut pack)?;
+    judge_pack(rt, group, &pack[..n])
 }
 
-fn main() {
-    judge_file(b"sound", b"sound.pack");
-    judge_file(b"cuts", b"cuts.pack");
-    judge_file(b"records", b"records.pack");
-    judge_file(b"counts", b"counts.pack");
-    judge_file(b"parts", b"parts.pack");
-    judge_file(b"roads", b"roads.pack");
-    judge_file(b"order", b"order.pack");
-    judge_file(b"limits", b"limits.pack");
-    judge_file(b"full", b"full.pack");
-    judge_file(b"bytes", b"bytes.pack");
-    judge_file(b"random", b"random.pack");
+fn main(rt: HostRuntime) -> io::Result<()> {
+    judge_file(&rt, b"sound", b"sound.pack")?;
+    judge_file(&rt, b"cuts", b"cuts.pack")?;
+    judge_file(&rt, b"records", b"records.pack")?;
+    judge_file(&rt, b"counts", b"counts.pack")?;
+    judge_file(&rt, b"parts", b"parts.pack")?;
+    judge_file(&rt, b"roads", b"roads.pack")?;
+    judge_file(&rt, b"order", b"order.pack")?;
+    judge_file(&rt, b"limits", b"limits.pack")?;
+    judge_file(&rt, b"full", b"full.pack")?;
+    judge_file(&rt, b"bytes", b"bytes.pack")?;
+    judge_file(&rt, b"random", b"random.pack")
 }

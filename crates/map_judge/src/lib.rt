@@ -23,7 +23,7 @@ const HEAD_WORDS: u32 = 64;
 
 const VANS: u32 = 1024;
 
-#[derive(Drop)]
+#[derive(Clone, Copy)]
 pub enum Judgement {
     // The map keeps every rule: its counts, and the words of memory that it needs.
     Sound(Counts, u32),

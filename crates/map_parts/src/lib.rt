@@ -14,7 +14,7 @@ use cells::word;
 use counts::{Counts, is_within};
 
 // How many children a part has, and how many vertices stand in it.
-#[derive(Drop)]
+#[derive(Clone, Copy)]
 pub struct Part {
     pub children: u32,
     pub vertices: u32,

@@ -20,7 +20,7 @@ use places::{counts_in, road_at};
 use van_offers::{offer_vans, vertex_word};
 
 // A search's list, and whether it is the answer.
-#[derive(Drop)]
+#[derive(Clone, Copy)]
 pub struct Near {
     pub best: BestList,
     pub done: bool,

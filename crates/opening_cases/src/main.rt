@@ -4,34 +4,32 @@
 
 ghost use Rattle.std.specs.Prelude.{◌<◌, ◌≤◌};
 
-use libc::STDOUT_FILENO;
 use opening::open;
 use packs::read_file;
+use std::io;
+use std::rt::Files;
 
-fn write_number(n: u64) {
-    io::write_all(STDOUT_FILENO, b" ");
-    io::print_decimal(STDOUT_FILENO, n);
+fn write_number(rt: &impl Print, n: u64) -> io::Result<()> {
+    print!(rt; " {n}")
 }
 
 // The words from `from` on below `to`.
-fn write_range(words: &[u32], from: usize, to: usize) {
+fn write_range(rt: &impl Print, words: &[u32], from: usize, to: usize) -> io::Result<()> {
     let mut i = from;
     while i < to {
         if i < words.len() {
-            write_number(words[i] as u64);
+            write_number(rt, words[i] as u64)?;
         }
         i += 1;
     }
+    Ok(())
 }
 
 // The same, with their place.
-fn write_words(words: &[u32], from: usize, to: usize) {
-    io::print_decimal(STDOUT_FILENO, from as u64);
-    io::write_all(STDOUT_FILENO, b" to");
-    write_number(to as u64);
-    io::write_all(STDOUT_FILENO, b":");
-    write_range(words, from, to);
-    io::write_all(STDOUT_FILENO, b"\n");
+fn write_words(rt: &impl Print, words: &[u32], from: usize, to: usize) -> io::Result<()> {
+    print!(rt; "{from} to {to}:")?;
+    write_range(rt, words, from, to)?;
+    println!(rt; "")
 }
 
 // One number for all words and their order.
@@ -47,66 +45,82 @@ fn digest(words: &[u32]) -> u64
     sum
 }
 
-fn write_case(name: &[u8], map: &[u8], start: u32, words: &mut [u32], from: usize, to: usize) {
+fn write_case(
+    rt: &impl Print,
+    name: &[u8],
+    map: &[u8],
+    start: u32,
+    words: &mut [u32],
+    from: usize,
+    to: usize,
+) -> io::Result<()> {
     let reply = open(map, words, start);
-    io::write_all(STDOUT_FILENO, name);
-    write_number(words.len() as u64);
-    write_number(reply.number() as u64);
-    write_number(reply.value() as u64);
-    io::write_all(STDOUT_FILENO, b"\n");
-    write_words(words, 0, 6);
-    write_words(words, from, to);
-    io::write_all(STDOUT_FILENO, b"digest");
-    write_number(digest(words));
-    io::write_all(STDOUT_FILENO, b"\n");
+    rt.write_all(name)?;
+    write_number(rt, words.len() as u64)?;
+    write_number(rt, reply.number() as u64)?;
+    write_number(rt, reply.value() as u64)?;
+    println!(rt; "")?;
+    write_words(rt, words, 0, 6)?;
+    write_words(rt, words, from, to)?;
+    print!(rt; "digest")?;
+    write_number(rt, digest(words))?;
+    println!(rt; "")
 }
 
 // The map of the file opened in `lent` words.
-fn open_case(name: &[u8], path: &[u8], start: u32, lent: usize, from: usize, to: usize)
+fn open_case(
+    rt: &(impl Files + Print),
+    name: &[u8],
+    path: &[u8],
+    start: u32,
+    lent: usize,
+    from: usize,
+    to: usize,
+) -> io::Result<()>
     requires { lent ≤ 32768 }
 {
     let mut map = [0u8; 4096];
-    let n = read_file(path, &mut map);
+    let n = read_file(rt, path, &mut map)?;
     let mut memory = [7u32; 32768];
-    write_case(name, &map[..n], start, &mut memory[..lent], from, to);
+    write_case(rt, name, &map[..n], start, &mut memory[..lent], from, to)
 }
 
-fn open_small() {
-    open_case(b"small", b"small.map", 100, 8413, 8348, 8413);
-    open_case(b"small", b"small.map", 100, 8412, 8348, 8412);
-    open_case(b"small", b"small.map", 0, 8420, 64, 88);
-    open_case(b"small", b"small.map", 4294967295, 8413, 88, 128);
+fn open_small(rt: &(impl Files + Print)) -> io::Result<()> {
+    open_case(rt, b"small", b"small.map", 100, 8413, 8348, 8413)?;
+    open_case(rt, b"small", b"small.map", 100, 8412, 8348, 8412)?;
+    open_case(rt, b"small", b"small.map", 0, 8420, 64, 88)?;
+    open_case(rt, b"small", b"small.map", 4294967295, 8413, 88, 128)
 }
 
-fn open_one() {
-    open_case(b"one", b"one.map", 1, 8277, 64, 80);
-    open_case(b"one", b"one.map", 1, 8277, 8272, 8277);
-    open_case(b"one", b"one.map", 1, 63, 0, 6);
+fn open_one(rt: &(impl Files + Print)) -> io::Result<()> {
+    open_case(rt, b"one", b"one.map", 1, 8277, 64, 80)?;
+    open_case(rt, b"one", b"one.map", 1, 8277, 8272, 8277)?;
+    open_case(rt, b"one", b"one.map", 1, 63, 0, 6)
 }
 
-fn open_apart() {
-    open_case(b"apart", b"apart.map", 2, 8473, 8273, 8473);
-    open_case(b"apart", b"apart.map", 2, 8472, 0, 6);
+fn open_apart(rt: &(impl Files + Print)) -> io::Result<()> {
+    open_case(rt, b"apart", b"apart.map", 2, 8473, 8273, 8473)?;
+    open_case(rt, b"apart", b"apart.map", 2, 8472, 0, 6)
 }
 
-fn open_limit() {
-    open_case(b"limit", b"limit.map", 3, 29832, 64, 72);
-    open_case(b"limit", b"limit.map", 3, 29832, 28808, 28872);
-    open_case(b"limit", b"limit.map", 3, 29831, 0, 6);
+fn open_limit(rt: &(impl Files + Print)) -> io::Result<()> {
+    open_case(rt, b"limit", b"limit.map", 3, 29832, 64, 72)?;
+    open_case(rt, b"limit", b"limit.map", 3, 29832, 28808, 28872)?;
+    open_case(rt, b"limit", b"limit.map", 3, 29831, 0, 6)
 }
 
 // More borders than a part may have get 3, also where the memory is below the need.
-fn open_past() {
-    open_case(b"past", b"past.map", 4, 30142, 0, 6);
-    open_case(b"past", b"past.map", 4, 30141, 0, 6);
-    open_case(b"past", b"past.map", 4, 64, 0, 6);
-    open_case(b"past", b"past.map", 4, 0, 0, 6);
+fn open_past(rt: &(impl Files + Print)) -> io::Result<()> {
+    open_case(rt, b"past", b"past.map", 4, 30142, 0, 6)?;
+    open_case(rt, b"past", b"past.map", 4, 30141, 0, 6)?;
+    open_case(rt, b"past", b"past.map", 4, 64, 0, 6)?;
+    open_case(rt, b"past", b"past.map", 4, 0, 0, 6)
 }
 
-fn main() {
-    open_small();
-    open_one();
-    open_apart();
-    open_limit();
-    open_past();
+fn main(rt: HostRuntime) -> io::Result<()> {
+    open_small(&rt)?;
+    open_one(&rt)?;
+    open_apart(&rt)?;
+    open_limit(&rt)?;
+    open_past(&rt)
 }

@@ -75,7 +75,7 @@ pub fn spread_known(
 }
 
 // The least key of the parts that wait, from the one at `from` on, and its place.
-#[derive(Drop)]
+#[derive(Clone, Copy)]
 pub struct Waiting {
     pub at: usize,
     pub key: u32,

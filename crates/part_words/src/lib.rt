@@ -39,7 +39,7 @@ fn lie_within(words: usize, first: usize, table: usize, size: usize) -> bool
 }
 
 // A part by its record: `size` rows from `first` on and a table of `size` lines, and whether all of them lie within the memory.
-#[derive(Drop)]
+#[derive(Clone, Copy)]
 pub struct PartRows {
     pub size: usize,
     pub first: usize,

@@ -27,7 +27,7 @@ use van_offers::{offer_rows, van_word, vertex_word};
 
 // A search between two turns: how many vans are listed, the part climbed to, the bound of what lies outside it, how many parts wait, and
 // from which on those that joined in the last turn.
-#[derive(Drop)]
+#[derive(Clone, Copy)]
 pub struct Search {
     pub len: usize,
     pub part: u32,

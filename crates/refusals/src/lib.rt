@@ -16,7 +16,7 @@ use road_lookup::{Lookup, look_up};
 use van_lists::VanWords;
 
 // The stamp of a van that is to stand is not told here.
-#[derive(Drop)]
+#[derive(Clone, Copy)]
 pub enum Verdict {
     Refuse(Reply),
     Stand(VanWords),

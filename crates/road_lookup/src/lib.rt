@@ -12,7 +12,7 @@ use layout::{RoadRecord, VertexRecord};
 use places::{road_at, vertex_at};
 
 // What looking up a road comes to.
-#[derive(Drop)]
+#[derive(Clone, Copy)]
 pub enum Lookup {
     // the road's number
     Found(u32),

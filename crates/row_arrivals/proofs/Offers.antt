@@ -15,7 +15,6 @@ use Rattle.words.proofs.Tests.{PairBefore, pair_if}
 use Rattle.rows.specs.declared.Row.{Row}
 use Rattle.row_words.specs.Words.{shown, placed, unplaced}
 use Rattle.row_arrivals.specs.Arrival.{improves, offered_to, offered, placed_seen, spread}
-use Rattle.part_words.specs.Part.{fits}
 use Rattle.row_words.proofs.Words.{placed_row}
 
 -- An offer.

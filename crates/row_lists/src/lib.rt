@@ -50,7 +50,7 @@ fn is_asked(near: u32, shown: u32, all: bool) -> bool
 }
 
 // How many of a part's rows are listed as those whose vertices have a distance, and as those whose distance is asked for.
-#[derive(Drop)]
+#[derive(Clone, Copy)]
 pub struct Listed {
     pub known: usize,
     pub asked: usize,

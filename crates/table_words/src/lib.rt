@@ -45,7 +45,7 @@ pub fn line_of(table: u32, size: u32, i: u32) -> usize
 }
 
 // The row of a row's vertex in the child that holds it: the child, 0 where none does, its size, where its rows and its table start, and the row.
-#[derive(Drop)]
+#[derive(Clone, Copy)]
 pub struct Below {
     pub part: u32,
     pub size: u32,

@@ -14,7 +14,7 @@ use layout::{VanRecord, VertexRecord};
 use places::{van_at, vertex_at};
 
 // The first four words of a van's record.
-#[derive(Drop)]
+#[derive(Clone, Copy)]
 pub struct VanWords {
     // 0 absent, 1 free, 1 + desk held
     pub state: u32,

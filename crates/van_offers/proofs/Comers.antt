@@ -15,7 +15,7 @@ use Rattle.words.specs.Lists.{keep}
 use Rattle.words.proofs.Tests.{both_true, both_pass}
 use Rattle.roads.specs.Map.{Map}
 use Rattle.roads.specs.Dist.{dist}
-use Rattle.fleet.specs.State.{Van, present, State, slot_of, head_of, distance_of}
+use Rattle.fleet.specs.State.{State, head_of, distance_of}
 use Rattle.fleet.specs.Question.{Listed, can_come, coming_from, sorted, nearest}
 use Rattle.fleet.proofs.Coming.{entry, coming_says, coming_has, coming_distinct}
 use Rattle.best_list.specs.Best.{limit_of}

@@ -1,4 +1,5 @@
-//! The layers of `crates.txt`: a comment begins a layer, and each line after it names a crate and those that it uses directly.
+//! The layers of `crates.txt`: a comment begins a layer, and each line after it names a crate, with its kind where it is
+//! no plain one, and those that it uses directly.
 
 use std::collections::{BTreeMap, BTreeSet};
 
@@ -25,7 +26,8 @@ impl Layers {
                     about: about.to_string(),
                     crates: Vec::new(),
                 });
-            } else if let Some((name, used)) = line.split_once(':') {
+            } else if let Some((named, used)) = line.split_once(':') {
+                let name = named.split_whitespace().next().unwrap_or(named);
                 let layer = layers
                     .last_mut()
                     .ok_or(format!("{name} stands in no layer"))?;
@@ -94,7 +96,7 @@ mod tests {
 
     #[test]
     fn what_others_imply_is_left_out() {
-        let text = "# the file\n\n# low\na:\nb: a\n\n# high\nc: a b io\n";
+        let text = "# the file\n\n# low\na:\nb: a\n\n# high\nc staticlib: a b io\n";
         let layers = Layers::read(text).unwrap();
         assert_eq!(layers.layers.len(), 2);
         assert_eq!(layers.layers[1].about, "high");

@@ -1,8 +1,5 @@
 -- `lower_key` makes the key less; a part that had none joins those that wait.
 -- Assumes nothing.
-use mathlib.Core.Path.{◌∙◌, ap}
-use lib.ListN.{length, length-set}
-use borrow.Author.Rules.{rules}
 use Rattle.part_keys.proofs.Spreading.{key_lowered, key_counted}
 use Rattle.part_keys.proofs.lower_key.Goals as goal
 

@@ -1,12 +1,7 @@
 -- `nearest_waiting` is the least key from a place on, and its place.
 -- Assumes nothing.
-use mathlib.Core.Logic.{inl, inr}
-use Prim.Native.Nat.{ℕ, ◌-◌, ◌≤◌, ◌<◌}
 use native.Mathlib.Omega.{arith}
-use Rattle.words.specs.Limits.{FAR}
-use Rattle.part_keys.specs.Keys.{Nearest}
 use Rattle.part_keys.proofs.Nearest.{nearest_none, nearest_lower, nearest_stays, nearest_end}
-use borrow.Author.Rules.{rules}
 use Rattle.part_keys.proofs.nearest_waiting.Goals as goal
 use Rattle.part_keys.proofs.nearest_waiting.Goals.{then-key-least, else-key-least}
 
@@ -16,8 +11,8 @@ loop-t-init c = (omega arith, λ h. absurd (omega arith), nearest_none)
 pub loop-t-preserved : goal.loop-t-preserved
 loop-t-preserved c =
     elim c.if-key-least.branch [
-      | then-key-least w ↦ rw (w.least-is, w.VAR2-is) (omega arith, λ h. omega arith, nearest_lower c.loop-t.invariant.2 c.loop-t.invariant.0 c.word.ensures c.wide.ensures c.word-key.ensures w.if-key-least.true)
-      | else-key-least w ↦ rw (w.least-is, w.VAR2-is) (omega arith, λ h. omega arith, nearest_stays c.loop-t.invariant.2 c.loop-t.invariant.0 c.word.ensures c.wide.ensures c.word-key.ensures w.if-key-least.false)
+      | then-key-least w ↦ rw (w.least-is, w.at-is) (omega arith, λ h. omega arith, nearest_lower c.loop-t.invariant.2 c.loop-t.invariant.0 c.word.ensures c.wide.ensures c.word-key.ensures w.if-key-least.true)
+      | else-key-least w ↦ rw (w.least-is, w.at-is) (omega arith, λ h. omega arith, nearest_stays c.loop-t.invariant.2 c.loop-t.invariant.0 c.word.ensures c.wide.ensures c.word-key.ensures w.if-key-least.false)
     ]
 
 pub returns : goal.returns

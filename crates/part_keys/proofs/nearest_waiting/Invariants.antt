@@ -1,9 +1,6 @@
-use mathlib.Core.Logic.{inl, inr}
-use Prim.Native.Nat.{ℕ, ◌-◌, ◌≤◌, ◌<◌}
-use native.Mathlib.Omega.{arith}
+use Prim.Native.Nat.{◌-◌, ◌≤◌, ◌<◌}
 use Rattle.words.specs.Limits.{FAR}
 use Rattle.part_keys.specs.Keys.{Nearest}
-use Rattle.part_keys.proofs.Nearest.{nearest_none, nearest_lower, nearest_stays, nearest_end}
 use Rattle.part_keys.proofs.nearest_waiting.Given as goal
 
 abbrev pub invariant-loop-t : goal.invariant-loop-t

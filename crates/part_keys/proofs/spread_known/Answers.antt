@@ -1,17 +1,13 @@
 -- `spread_known` gives keys, row by row.
 -- Assumes nothing.
 use mathlib.Core.Path.{◌≡◌, refl, sym, ap, ◌∙◌}
-use mathlib.Core.List.{List}
-use Prim.Native.Nat.{ℕ, ◌+◌, ◌-◌, ◌*◌, ◌≤◌, ◌<◌}
+use Prim.Native.Nat.{◌+◌, ◌*◌, ◌<◌}
 use native.Mathlib.Omega.{arith}
 use Rattle.words.specs.Lists.{word}
-use Rattle.row_lists.specs.Rows.{near_at, Nears}
-use Rattle.listing.specs.Lists.{Among}
-use Rattle.part_keys.specs.Keys.{Spread}
+use Rattle.row_lists.specs.Rows.{near_at}
 use Rattle.row_lists.proofs.Rows.{rows_fit, row_read}
 use Rattle.part_keys.proofs.Spreading.{key_read}
 use Rattle.part_keys.proofs.Spreading.{spread_none, spread_more, spread_all}
-use borrow.Author.Rules.{rules}
 use Rattle.part_keys.proofs.spread_known.Goals as goal
 
 pub loop-t-init : goal.loop-t-init
@@ -21,9 +17,8 @@ loop-t-init c =
 pub loop-t-preserved : goal.loop-t-preserved
 loop-t-preserved c =
     let row_is : c.wide-i.result ≡ word c.args.places.now c.loop-t.t = c.wide-i.ensures ∙ c.word.ensures in
-    let here = (omega (arith, c.wide-i.ensures ∙ c.word.ensures, c.requires.5 c.loop-t.t c.loop-t-test.true)) in
-    let owner-is = row_read c.args.mem.now c.args.first c.args.size c.wide-i.result 2 here (omega arith) in
-    (
+    let here = (let it : c.wide-i.result < c.args.size = omega (arith, c.wide-i.ensures ∙ c.word.ensures, c.requires.5 c.loop-t.t c.loop-t-test.true) in it) in
+    let owner-is = row_read c.args.mem.now c.args.first c.args.size c.wide-i.result 2 here (omega arith) in (
       omega arith,
       λ dx nears.
           let near_is = c.word-in-loop-t-2.ensures ∙ nears c.loop-t.t c.loop-t-test.true ∙ ap (near_at c.args.mem.now c.args.first dx) (sym row_is) in
@@ -36,30 +31,30 @@ returns c =
     λ dx nears. spread_all c.args.places.now (c.loop-t.invariant.1 dx nears) c.loop-t.invariant.0 c.loop-t-test.false
 
 pub overflow_mul-owner : goal.overflow_mul-owner
-overflow_mul-owner c = omega (arith, within (c))
+overflow_mul-owner c = omega (arith, (let it : c.wide-i.result < c.args.size = omega (arith, c.wide-i.ensures ∙ c.word.ensures, c.requires.5 c.loop-t.t c.loop-t-test.true) in it))
 
 pub overflow_add-owner : goal.overflow_add-owner
-overflow_add-owner c = omega (arith, within (c))
+overflow_add-owner c = omega (arith, (let it : c.wide-i.result < c.args.size = omega (arith, c.wide-i.ensures ∙ c.word.ensures, c.requires.5 c.loop-t.t c.loop-t-test.true) in it))
 
 pub offset_bounds-rows-i : goal.offset_bounds-rows-i
-offset_bounds-rows-i c = omega (arith, within (c))
+offset_bounds-rows-i c = omega (arith, (let it : c.wide-i.result < c.args.size = omega (arith, c.wide-i.ensures ∙ c.word.ensures, c.requires.5 c.loop-t.t c.loop-t-test.true) in it))
 
 pub bounds-rows-i : goal.bounds-rows-i
 bounds-rows-i c =
-    omega (arith, (omega (arith, c.wide-i.ensures ∙ c.word.ensures, c.requires.5 c.loop-t.t c.loop-t-test.true)), rows_fit c.args.mem.now c.args.first c.args.size c.requires.2)
+    omega (arith, (let it : c.wide-i.result < c.args.size = omega (arith, c.wide-i.ensures ∙ c.word.ensures, c.requires.5 c.loop-t.t c.loop-t-test.true) in it), rows_fit c.args.mem.now c.args.first c.args.size c.requires.2)
 
 pub overflow_mul-i : goal.overflow_mul-i
-overflow_mul-i c = omega (arith, (omega (arith, c.wide-i.ensures ∙ c.word.ensures, c.requires.5 c.loop-t.t c.loop-t-test.true)))
+overflow_mul-i c = omega (arith, (let it : c.wide-i.result < c.args.size = omega (arith, c.wide-i.ensures ∙ c.word.ensures, c.requires.5 c.loop-t.t c.loop-t-test.true) in it))
 
 pub overflow_add-i : goal.overflow_add-i
-overflow_add-i c = omega (arith, (omega (arith, c.wide-i.ensures ∙ c.word.ensures, c.requires.5 c.loop-t.t c.loop-t-test.true)))
+overflow_add-i c = omega (arith, (let it : c.wide-i.result < c.args.size = omega (arith, c.wide-i.ensures ∙ c.word.ensures, c.requires.5 c.loop-t.t c.loop-t-test.true) in it))
 
 pub offset_bounds-rows-i-in-loop-t : goal.offset_bounds-rows-i-in-loop-t
-offset_bounds-rows-i-in-loop-t c = omega (arith, (omega (arith, c.wide-i.ensures ∙ c.word.ensures, c.requires.5 c.loop-t.t c.loop-t-test.true)))
+offset_bounds-rows-i-in-loop-t c = omega (arith, (let it : c.wide-i.result < c.args.size = omega (arith, c.wide-i.ensures ∙ c.word.ensures, c.requires.5 c.loop-t.t c.loop-t-test.true) in it))
 
 pub bounds-rows-i-in-loop-t : goal.bounds-rows-i-in-loop-t
 bounds-rows-i-in-loop-t c =
-    omega (arith, (omega (arith, c.wide-i.ensures ∙ c.word.ensures, c.requires.5 c.loop-t.t c.loop-t-test.true)), rows_fit c.args.mem.now c.args.first c.args.size c.requires.2)
+    omega (arith, (let it : c.wide-i.result < c.args.size = omega (arith, c.wide-i.ensures ∙ c.word.ensures, c.requires.5 c.loop-t.t c.loop-t-test.true) in it), rows_fit c.args.mem.now c.args.first c.args.size c.requires.2)
 
 pub overflow_add-below : goal.overflow_add-below
 overflow_add-below c =

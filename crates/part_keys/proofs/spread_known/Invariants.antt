@@ -1,14 +1,8 @@
-use mathlib.Core.Path.{◌≡◌, refl, sym, ap, ◌∙◌}
 use mathlib.Core.List.{List}
-use Prim.Native.Nat.{ℕ, ◌+◌, ◌-◌, ◌*◌, ◌≤◌, ◌<◌}
-use native.Mathlib.Omega.{arith}
-use Rattle.words.specs.Lists.{word}
-use Rattle.row_lists.specs.Rows.{near_at, Nears}
+use Prim.Native.Nat.{ℕ, ◌-◌, ◌≤◌}
+use Rattle.row_lists.specs.Rows.{Nears}
 use Rattle.listing.specs.Lists.{Among}
 use Rattle.part_keys.specs.Keys.{Spread}
-use Rattle.row_lists.proofs.Rows.{rows_fit, row_read}
-use Rattle.part_keys.proofs.Spreading.{key_read}
-use Rattle.part_keys.proofs.Spreading.{spread_none, spread_more, spread_all}
 use Rattle.part_keys.proofs.spread_known.Given as goal
 
 abbrev pub invariant-loop-t : goal.invariant-loop-t
