@@ -24,7 +24,6 @@ use Rattle.maps.proofs.Distances.{sound_net}
 use Rattle.counts.specs.declared.Counts.{Counts}
 use Rattle.fleet.specs.State.{State, slot_of, head_of}
 use Rattle.fleet.specs.Question.{Listed, coming_from, sorted, nearest}
-use Rattle.fleet.proofs.Coming.{coming_distinct}
 use Rattle.image.specs.Image.{vertex_record}
 use Rattle.places.specs.Place.{counts_in, vertex_address}
 use Rattle.best_list.specs.Best.{limit_of, offered_all}

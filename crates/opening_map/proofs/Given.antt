@@ -9,7 +9,7 @@ use Rattle.roads.specs.Map.{Road, Map, part_count, road_count, no_road}
 use Rattle.maps.specs.Bytes.{counts_of, body_at, start2, start3, start4, decode}
 use Rattle.maps.specs.Judge.{sound, judge}
 use Rattle.maps.specs.Sound.{Sound}
-use Rattle.maps.proofs.Judged.{numbers_length, roads_length, road_is, Shown, judged_shown, judged_sound}
+use Rattle.maps.proofs.Judged.{numbers_length, roads_length, road_is, judged_shown, judged_sound}
 use Rattle.map_bytes.specs.Copied.{Copied}
 use Rattle.map_borders.specs.Sizes.{Given, Lifts, Sizes}
 use Rattle.map_judge.specs.Bodies.{the_counts}

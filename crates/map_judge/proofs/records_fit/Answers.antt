@@ -11,6 +11,7 @@ use Rattle.maps.specs.Judge.{rest_fits}
 use Rattle.map_judge.specs.Bodies.{the_counts}
 use Rattle.map_judge.proofs.records_fit.Goals as goal
 
+-- the test, where the outcomes of its parts are known
 parts : (bytes : List ℕ) (c : Counts) {second third fourth fits2 fits3 fits4 : Bool}
     → second ≡ is_record bytes start2 2 (length2 c) → second ≡ fits2 → third ≡ is_record bytes (start3 c) 3 (length3 c) → third ≡ fits3
     → fourth ≡ is_record bytes (start4 c) 4 (length4 c) → fourth ≡ fits4

@@ -10,6 +10,7 @@ use Rattle.words.specs.Lists.{word}
 use Rattle.map_parts.specs.Part.{fallen}
 use Rattle.map_parts.proofs.parent_fits.Goals as goal
 
+-- the test, where its first part and the parent are known
 parts : (parents : List ℕ) (p : ℕ) {root : Bool} {parent : ℕ} → eqb p 0 ≡ root → parent ≡ word parents p → (root || ltb parent p) ≡ fallen parents p
 unfolding fallen
 parts parents p isRoot isParent = λ i. sym isRoot i || ltb (isParent i) p

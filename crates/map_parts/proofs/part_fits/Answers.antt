@@ -9,6 +9,7 @@ use Rattle.words.specs.Lists.{word}
 use Rattle.map_parts.specs.Part.{fallen, family, near, part_test}
 use Rattle.map_parts.proofs.part_fits.Goals as goal
 
+-- the test, where the outcomes of its parts are known
 parts : (parents children homes : List ℕ) (p : ℕ) {fall fit high : Bool} → fall ≡ fallen parents p → fit ≡ family (word children p) (word homes p) → high ≡ near parents most_levels p
     → (fall && fit && high) ≡ part_test parents children homes p
 unfolding part_test

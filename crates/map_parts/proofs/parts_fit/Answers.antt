@@ -11,6 +11,7 @@ use borrow.Author.Tests.{eq-eqb, ne_eqb}
 use Rattle.map_parts.proofs.Fits.{no_root, parts_fit_is}
 use Rattle.map_parts.proofs.parts_fit.Goals as goal
 
+-- the outcome of a test of what was read, for what it is
 at-root : {x y : ℕ} {b : Bool} → x ≡ y → eqb x NONE ≡ b → eqb y NONE ≡ b
 at-root is e = sym (ap (λ (n : ℕ). eqb n NONE) is) ∙ e
 

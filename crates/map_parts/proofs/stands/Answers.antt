@@ -11,6 +11,7 @@ use Rattle.words.specs.Lists.{word}
 use Rattle.map_parts.specs.Part.{standing}
 use Rattle.map_parts.proofs.stands.Goals as goal
 
+-- the test, where the leaf and the outcome of the first part are known
 parts : (leaves children : List ℕ) (count v : ℕ) {leaf : ℕ} {real : Bool} → leaf ≡ word leaves v → ltb leaf count ≡ real
     → (real && eqb (get_or children leaf 0) 0) ≡ standing leaves children count v
 unfolding standing

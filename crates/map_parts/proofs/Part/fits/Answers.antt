@@ -10,6 +10,7 @@ use Rattle.words.specs.Tests.{within}
 use Rattle.map_parts.specs.Part.{family}
 use Rattle.map_parts.proofs.Part.fits.Goals as goal
 
+-- the test, where the outcome of its first part is known
 by-leaf : (children homes : ℕ) {leaf : Bool} → eqb children 0 ≡ leaf → cond leaf (within 1 most_in_leaf homes) (within fewest_children most_children children) ≡ family children homes
 unfolding family
 by-leaf children homes e = ap (λ (leaf : Bool). cond leaf (within 1 most_in_leaf homes) (within fewest_children most_children children)) (sym e)

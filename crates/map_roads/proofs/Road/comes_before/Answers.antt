@@ -8,6 +8,7 @@ use Rattle.roads.specs.Map.{Road}
 use Rattle.maps.specs.Rules.{road_before}
 use Rattle.map_roads.proofs.Road.comes_before.Goals as goal
 
+-- the test, where the outcomes of its parts are known
 parts : (r s : Road) {a b c : Bool} → ltb r.from s.from ≡ a → eqb r.from s.from ≡ b → ltb r.to s.to ≡ c → (a || (b && c)) ≡ road_before r s
 unfolding road_before
 parts r s p q t = sym (λ i. p i || (q i && t i))

@@ -10,6 +10,7 @@ use Rattle.maps.specs.Rules.{road_fits}
 use Rattle.map_roads.specs.Road.{road}
 use Rattle.map_roads.proofs.Road.fits.Goals as goal
 
+-- the test, where the outcomes of its parts are known
 parts : (from to weight vertices : ℕ) {a b c d e : Bool} → ltb from vertices ≡ a → ltb to vertices ≡ b → eqb from to ≡ c → leb 1 weight ≡ d → leb weight most_weight ≡ e
     → (a && b && not c && (d && e)) ≡ road_fits vertices (road from to weight)
 unfolding road_fits
