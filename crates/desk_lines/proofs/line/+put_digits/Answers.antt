@@ -1,4 +1,5 @@
 -- `line::put_digits` writes the digits.
+-- Assumes nothing.
 use Rattle.std.proofs.Common.{arith, sym, ◌-◌, ◌/◌}
 use Rattle.desk_lines.proofs.Writing.{wrote_as, wrote_none, wrote_byte, wrote_more, digits_few, digits_none, digits_one, digits_more}
 use Rattle.desk_lines.proofs.line.+put_digits.Goals as goal

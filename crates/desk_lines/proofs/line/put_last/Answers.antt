@@ -1,4 +1,5 @@
 -- `line::put_last` writes the last line.
+-- Assumes nothing.
 use native.Mathlib.Omega.{arith}
 use Rattle.desk_lines.proofs.Writing.{wrote_more, number_few}
 use Rattle.desk_lines.proofs.line.put_last.Goals as goal

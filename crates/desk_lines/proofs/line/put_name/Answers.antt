@@ -1,4 +1,5 @@
 -- `line::put_name` writes the place and the name.
+-- Assumes nothing.
 use native.Mathlib.Omega.{arith}
 use Rattle.desk_lines.proofs.Writing.{wrote_more, digits_few}
 use Rattle.desk_lines.proofs.line.put_name.Goals as goal

@@ -1,4 +1,5 @@
 -- `line::put_none` writes a line with a name alone.
+-- Assumes nothing.
 use native.Mathlib.Omega.{arith}
 use Rattle.desk_lines.proofs.Writing.{wrote_more, named_few}
 use Rattle.desk_lines.proofs.line.put_none.Goals as goal

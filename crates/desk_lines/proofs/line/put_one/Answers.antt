@@ -1,4 +1,5 @@
 -- `line::put_one` writes a line with one number.
+-- Assumes nothing.
 use native.Mathlib.Omega.{arith}
 use Rattle.desk_lines.proofs.Writing.{wrote_more, named_few, number_few}
 use Rattle.desk_lines.proofs.line.put_one.Goals as goal

@@ -1,4 +1,5 @@
 -- `line::put_text` writes the text. The loop's invariant: the first i bytes of it are written. The measure is what is left of it.
+-- Assumes nothing.
 use mathlib.Core.Path.{◌∙◌}
 use native.Mathlib.Omega.{arith}
 use Rattle.desk_lines.proofs.Writing.{wrote_next}

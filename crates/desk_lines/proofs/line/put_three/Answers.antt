@@ -1,4 +1,5 @@
 -- `line::put_three` writes a line with three numbers.
+-- Assumes nothing.
 use native.Mathlib.Omega.{arith}
 use Rattle.desk_lines.proofs.Writing.{wrote_more, named_few, number_few}
 use Rattle.desk_lines.proofs.line.put_three.Goals as goal

@@ -1,4 +1,5 @@
 -- `line::write_line` writes the text of the line.
+-- Assumes nothing.
 use Rattle.desk_lines.proofs.Writing.{wrote_as}
 use Rattle.desk_lines.proofs.Texts.{opened_text, ok_text, no_text, length_text, van_text, bad_text, end_text}
 use Rattle.desk_lines.proofs.line.write_line.Goals as goal

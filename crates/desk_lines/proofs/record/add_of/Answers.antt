@@ -1,4 +1,5 @@
 -- `record::add_of` reads a body as `add_of` does.
+-- Assumes nothing.
 use Rattle.desk_lines.specs.Read.{add_of}
 use Rattle.desk_lines.proofs.Sized.{sizes}
 use Rattle.desk_lines.proofs.record.add_of.Goals as goal

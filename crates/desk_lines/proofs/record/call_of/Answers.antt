@@ -1,4 +1,5 @@
 -- `record::call_of` is `call_of`: kinds 16 to 21 are calls and every other kind is bad.
+-- Assumes nothing.
 use native.Mathlib.Omega.{arith}
 use Rattle.desk_lines.specs.Read.{call_of}
 use Rattle.desk_lines.proofs.Sized.{call_as, below_calls, above_calls}

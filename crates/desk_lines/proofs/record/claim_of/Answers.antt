@@ -1,4 +1,5 @@
 -- `record::claim_of` reads a body as `claim_of` does.
+-- Assumes nothing.
 use Rattle.desk_lines.specs.Read.{claim_of}
 use Rattle.desk_lines.proofs.Sized.{sizes}
 use Rattle.desk_lines.proofs.record.claim_of.Goals as goal

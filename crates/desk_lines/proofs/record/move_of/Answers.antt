@@ -1,4 +1,5 @@
 -- `record::move_of` reads a body as `move_of` does.
+-- Assumes nothing.
 use Rattle.desk_lines.specs.Read.{move_of}
 use Rattle.desk_lines.proofs.Sized.{sizes}
 use Rattle.desk_lines.proofs.record.move_of.Goals as goal

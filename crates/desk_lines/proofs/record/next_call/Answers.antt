@@ -1,4 +1,5 @@
 -- `record::next_call` is `turn_of`.
+-- Assumes nothing.
 use native.Mathlib.Omega.{arith}
 use Rattle.desk_lines.specs.declared.record.Request.{Request}
 use Rattle.desk_lines.proofs.Sized.{turn_over, turn_bad, turn_call, size_room}

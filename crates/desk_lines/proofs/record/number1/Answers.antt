@@ -1,4 +1,5 @@
 -- `record::number1` reads the byte, and 0 past the end.
+-- Assumes nothing.
 use Rattle.map_bytes.proofs.Numbers.{field_past}
 use Rattle.desk_lines.proofs.Sized.{field_one}
 use Rattle.desk_lines.proofs.record.number1.Goals as goal

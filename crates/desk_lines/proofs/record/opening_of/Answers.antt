@@ -1,4 +1,5 @@
 -- `record::opening_of` is `opening_of`.
+-- Assumes nothing.
 use Rattle.desk_lines.proofs.Sized.{opening_size, opening_kind, opening_start}
 use Rattle.desk_lines.proofs.record.opening_of.Goals as goal
 

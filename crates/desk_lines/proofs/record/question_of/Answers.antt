@@ -1,4 +1,5 @@
 -- `record::question_of` reads a body as `question_of` does.
+-- Assumes nothing.
 use Rattle.desk_lines.specs.Read.{question_of}
 use Rattle.desk_lines.proofs.Sized.{sizes}
 use Rattle.desk_lines.proofs.record.question_of.Goals as goal

@@ -1,4 +1,5 @@
 -- `record::record_size` is `record_size`.
+-- Assumes nothing.
 use Rattle.desk_lines.proofs.Sized.{size_short, size_cut, size_whole}
 use Rattle.desk_lines.proofs.record.record_size.Goals as goal
 

@@ -1,4 +1,5 @@
 -- `record::release_of` reads a body as `release_of` does.
+-- Assumes nothing.
 use Rattle.desk_lines.specs.Read.{release_of}
 use Rattle.desk_lines.proofs.Sized.{sizes}
 use Rattle.desk_lines.proofs.record.release_of.Goals as goal

@@ -1,4 +1,5 @@
 -- `record::remove_of` reads a body as `remove_of` does.
+-- Assumes nothing.
 use Rattle.desk_lines.specs.Read.{remove_of}
 use Rattle.desk_lines.proofs.Sized.{sizes}
 use Rattle.desk_lines.proofs.record.remove_of.Goals as goal

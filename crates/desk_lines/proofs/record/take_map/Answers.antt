@@ -1,5 +1,6 @@
 -- `record::take_map` is `take_records` of four records. The loop's invariant: what is left to take from here is what there was to take. The
 -- measure is how many records are left.
+-- Assumes nothing.
 use mathlib.Core.Path.{sym, ◌∙◌}
 use native.Mathlib.Omega.{arith}
 use Rattle.desk_lines.proofs.Taking.{none_left, take_ended, take_long, take_next}
