@@ -4,9 +4,9 @@ use mathlib.Core.Path.{◌≡◌, refl, sym, ap, subst, subst⁻¹, ◌∙◌}
 use mathlib.Core.Logic.{◌≢◌}
 use mathlib.Core.Bool.{Bool, true, false, true≢false}
 use mathlib.Core.List.{List, []}
-use Prim.Native.Nat.{ℕ, zero, suc, ◌+◌, ◌-◌, ◌*◌, ◌≤◌, ◌<◌, min}
+use Prim.Native.Nat.{ℕ, zero, suc, ◌+◌, ◌-◌, ◌≤◌, ◌<◌, min}
 use native.Mathlib.Omega.{arith}
-use lib.ListN.{length, set, replicate, length-set, length-replicate, get_or-replicate}
+use lib.ListN.{length, set, replicate, length-replicate, get_or-replicate}
 use Rattle.words.specs.Limits.{FAR}
 use Rattle.words.specs.Lists.{word}
 use Rattle.words.proofs.Lists.{all_same}
@@ -16,7 +16,7 @@ use Rattle.maps.proofs.Distances.{sound_tree}
 use Rattle.parts.proofs.Gates.{no_first_child, some_first_child}
 use Rattle.counts.specs.declared.Counts.{Counts}
 use Rattle.fleet.specs.State.{State}
-use Rattle.fleet.specs.Question.{Listed, nearest}
+use Rattle.fleet.specs.Question.{Listed}
 use Rattle.places.specs.Place.{counts_in, vertex_address}
 use Rattle.best_list.specs.Best.{entries, limit_of, offered_all, InOrder}
 use Rattle.van_offers.specs.Offers.{stamp_in, row_offers}

@@ -1,21 +1,18 @@
 -- How a search starts, what a leaf that is looked at leaves, and when the list of the best is the answer.
 -- Assumes nothing.
-use mathlib.Core.Path.{◌≡◌, refl, sym, ap, subst, subst⁻¹, ◌∙◌}
+use mathlib.Core.Path.{◌≡◌, refl, sym, ap, subst⁻¹, ◌∙◌}
 use mathlib.Core.Logic.{◌⊎◌, inl, inr, ⊎_elim, ◌≢◌}
-use mathlib.Core.Bool.{Bool, true, false, cond, true≢false}
+use mathlib.Core.Bool.{Bool, true, false}
 use mathlib.Core.List.{List, [], ◌∷◌, Memᴰ}
-use Prim.Native.Nat.{ℕ, zero, suc, ◌+◌, ◌-◌, ◌≤◌, ◌<◌, min}
-use native.Mathlib.Decide.{dec_lt, ℕ_discrete}
+use Prim.Native.Nat.{ℕ, ◌+◌, ◌-◌, ◌≤◌, ◌<◌}
+use native.Mathlib.Decide.{ℕ_discrete}
 use native.Mathlib.Omega.{arith}
 use lib.ListN.{length, set, take, length-set}
 use lib.Seq.{get_or-set_same, get_or-set_other, take-nil}
-use lib.Dec.{eqb}
-use borrow.Author.Tests.{eq-eqb, eqb-true, ne_eqb}
+use borrow.Author.Tests.{eq-eqb, ne_eqb}
 use Rattle.words.specs.Limits.{FAR}
 use Rattle.words.specs.Lists.{word, keep}
 use Rattle.words.proofs.Tests.{true_or_false}
-use Rattle.words.proofs.Lists.{any_by}
-use Rattle.words.proofs.Places.{entry_in}
 use Rattle.roads.specs.Map.{Map, part_count}
 use Rattle.roads.specs.Dist.{dist}
 use Rattle.roads.proofs.Trail.{Net}
@@ -27,7 +24,7 @@ use Rattle.parts.proofs.Rows.{row_vertex_lem}
 use Rattle.parts.proofs.Way.{in_own_leaf}
 use Rattle.parts.proofs.Down.{Tree, holding_part, leaf_of_held, boundary_row}
 use Rattle.maps.proofs.Distances.{sound_net, sound_tree}
-use Rattle.fleet.specs.State.{Van, absent, State, slot_of, head_of, heads_for, active, distance_of}
+use Rattle.fleet.specs.State.{State, slot_of, head_of, active, distance_of}
 use Rattle.fleet.specs.Question.{Listed, coming_from, sorted, nearest}
 use Rattle.fleet.proofs.Coming.{coming_distinct}
 use Rattle.image.specs.Records.{row_vertex}

@@ -1,8 +1,8 @@
 -- Distances made less at the rows of a part that are asked for are the distances to x: in the leaf of x, in the parent of a part that holds x and whose boundary has its distances, and,
 -- for rows at which an active vertex arrives, in a part outside of which x stands and whose boundary has them where one arrives.
 -- Assumes nothing.
-use mathlib.Core.Path.{◌≡◌, refl, sym, ap, subst, subst⁻¹, ◌∙◌}
-use mathlib.Core.Logic.{◌⊎◌, inl, inr, ⊎_elim, ◌≢◌}
+use mathlib.Core.Path.{◌≡◌, sym, ap, subst, subst⁻¹, ◌∙◌}
+use mathlib.Core.Logic.{⊎_elim, ◌≢◌}
 use mathlib.Core.Bool.{true, false, cond}
 use mathlib.Core.List.{List, Memᴰ}
 use Prim.Native.Nat.{ℕ, ◌+◌, ◌*◌, ◌≤◌, ◌<◌}
@@ -18,7 +18,7 @@ use Rattle.roads.specs.Dist.{dist}
 use Rattle.roads.proofs.Trail.{Net}
 use Rattle.roads.proofs.Laws.{dist_most, dist_self, dist_triangle}
 use Rattle.parts.specs.Tree.{leaf_of, holds, children, is_leaf}
-use Rattle.parts.specs.Border.{boundary, borders}
+use Rattle.parts.specs.Border.{boundary}
 use Rattle.parts.specs.Size.{row_vertices, size_of}
 use Rattle.parts.proofs.Cross.{enters_through, leaves_through}
 use Rattle.parts.proofs.Rows.{row_vertex_lem}

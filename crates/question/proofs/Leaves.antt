@@ -2,19 +2,18 @@
 -- Assumes nothing.
 use mathlib.Core.Path.{◌≡◌, refl, sym, ap, subst, subst⁻¹, ◌∙◌}
 use mathlib.Core.Logic.{◌⊎◌, inl, inr, ⊎_elim, ◌≢◌}
-use mathlib.Core.Bool.{Bool, true, false, cond, ◌&&◌, true≢false}
+use mathlib.Core.Bool.{Bool, true, false, cond, true≢false}
 use mathlib.Core.List.{List, [], ◌∷◌, ◌++◌, Memᴰ}
 use Prim.Native.Nat.{ℕ, zero, suc, ◌+◌, ◌≤◌, ◌<◌}
-use native.Mathlib.Nat.{zero-add}
 use native.Mathlib.Decide.{dec_lt, ℕ_discrete}
 use native.Mathlib.Omega.{arith}
 use lib.ListN.{length, set, take}
 use lib.Seq.{get_or-set_same, get_or-set_other}
 use lib.Dec.{eqb, ltb}
-use borrow.Author.Tests.{eqb-true, eq-eqb, ne_eqb, ltb-true, lt-ltb, le-ltb}
-use Rattle.words.specs.Limits.{FAR, most_asked}
+use borrow.Author.Tests.{eq-eqb, ne_eqb, lt-ltb, le-ltb}
+use Rattle.words.specs.Limits.{FAR}
 use Rattle.words.specs.Lists.{word, place_in, keep, count_from}
-use Rattle.words.proofs.Tests.{true_or_false, both_true, both_pass}
+use Rattle.words.proofs.Tests.{true_or_false}
 use Rattle.words.proofs.Places.{place_of_entry}
 use Rattle.roads.specs.Map.{Map, part_count}
 use Rattle.roads.specs.Dist.{dist}
@@ -23,14 +22,14 @@ use Rattle.parts.specs.Size.{row_vertices, size_of}
 use Rattle.parts.proofs.Rows.{rows_unique}
 use Rattle.parts.proofs.Down.{vertices_has}
 use Rattle.parts.proofs.Gates.{rows_leaf, vertices_says}
-use Rattle.fleet.specs.State.{Van, Slot, absent, present, State, slot_of, head_of, active}
-use Rattle.fleet.specs.Question.{Listed, can_come, coming_from, sorted}
+use Rattle.fleet.specs.State.{present, State, slot_of, head_of, active}
+use Rattle.fleet.specs.Question.{Listed, sorted}
 use Rattle.fleet.proofs.Sorted.{Distinct, none, more}
-use Rattle.fleet.proofs.Coming.{entry, Comes, coming_says, coming_has, coming_distinct}
+use Rattle.fleet.proofs.Coming.{coming_distinct}
 use Rattle.image.specs.Records.{row_vertex}
 use Rattle.places.specs.Place.{counts_in, vertex_address}
 use Rattle.best_list.specs.Best.{offered_all}
-use Rattle.best_list.proofs.Offers.{best_of, offered_more}
+use Rattle.best_list.proofs.Offers.{offered_more}
 use Rattle.van_offers.specs.Offers.{van_offers, row_owner, vertex_offers, row_offers}
 use Rattle.layout.specs.Layout.{rows_in_part, part_word}
 use Rattle.part_words.specs.Part.{rows_in}

@@ -1,24 +1,23 @@
 -- What the words of a map and a fleet say of parts, rows, vertices and vans.
 -- Assumes nothing.
 use mathlib.Core.Path.{◌≡◌, refl, sym, ap, subst, subst⁻¹, ◌∙◌}
-use mathlib.Core.Logic.{◌⊎◌, inl, inr, ⊎_elim, ◌≢◌}
+use mathlib.Core.Logic.{◌≢◌}
 use mathlib.Core.Bool.{Bool, true, false, cond}
 use mathlib.Core.List.{List, Memᴰ}
-use Prim.Native.Nat.{ℕ, ◌+◌, ◌*◌, ◌/◌, ◌%◌, ◌≤◌, ◌<◌, min}
+use Prim.Native.Nat.{ℕ, ◌+◌, ◌*◌, ◌/◌, ◌%◌, ◌<◌}
 use native.Mathlib.Nat.{mod-eq_of_lt, add-mul-mod_self_left, add-mul-div_left, div-eq_of_lt, zero-add}
 use native.Mathlib.Decide.{ℕ_discrete}
 use native.Mathlib.Omega.{arith}
-use lib.ListN.{length, get_or}
+use lib.ListN.{length}
 use borrow.Author.Tests.{eqb-true}
-use Rattle.words.specs.Limits.{FAR, vans}
+use Rattle.words.specs.Limits.{FAR}
 use Rattle.words.specs.Lists.{word, place_in, first_or}
-use Rattle.words.proofs.Tests.{true_or_false}
 use Rattle.words.proofs.Lists.{place_in_lem}
 use Rattle.words.proofs.Sums.{sum_below}
 use Rattle.words.proofs.Places.{entry_in, place_of_entry}
 use Rattle.roads.specs.Map.{Map, part_count}
 use Rattle.roads.specs.Dist.{dist}
-use Rattle.roads.proofs.Trail.{Net, join}
+use Rattle.roads.proofs.Trail.{join}
 use Rattle.roads.proofs.Laws.{dist_most, dist_self}
 use Rattle.parts.specs.Tree.{parent_of, leaf_of, vertices_of, holds, children, child_of, is_leaf}
 use Rattle.parts.specs.Border.{borders}
@@ -26,20 +25,19 @@ use Rattle.parts.specs.Size.{row_vertices, size_of, rows_below, row_count, table
 use Rattle.parts.proofs.Rows.{row_vertex_lem, rows_unique}
 use Rattle.parts.proofs.Down.{Tree, child_held, boundary_inside, children_says, border_row, border_child, vertices_has}
 use Rattle.parts.proofs.Gates.{rows_leaf, rows_inner, row_held}
-use Rattle.maps.specs.Sound.{Sound}
 use Rattle.maps.proofs.Distances.{sound_net, sound_tree, sound_dist, few_rows}
 use Rattle.rows.specs.declared.Row.{Row}
 use Rattle.rows.specs.Row.{row_of, Arrives, IsRow, empty, shows}
 use Rattle.rows.proofs.Least.{row_is}
 use Rattle.rows.proofs.Bounds.{row_bound}
 use Rattle.fleet.specs.State.{State, active}
-use Rattle.image.specs.Places.{vertices_at, roads_at, vans_at, itself_at, table_of, first_row_of, row_at}
-use Rattle.image.specs.Image.{head_part, part_record, vertex_record, row_record, part_below, row_below, image}
+use Rattle.image.specs.Places.{itself_at, table_of, first_row_of, row_at}
+use Rattle.image.specs.Image.{part_record, vertex_record, row_record, part_below, row_below}
 use Rattle.image.specs.Records.{row_vertex}
 use Rattle.image.proofs.Length.{image_length}
 use Rattle.image.proofs.Words.{row_word_lem}
-use Rattle.image.proofs.Records.{head_word, part_word_lem, vertex_word, table_word, shown_word, vertices_start, roads_start, vans_start, rows_start, rows_end}
-use Rattle.places.specs.Place.{counts_in, vertex_address, van_address}
+use Rattle.image.proofs.Records.{part_word_lem, table_word, shown_word, rows_start, rows_end}
+use Rattle.places.specs.Place.{counts_in, vertex_address}
 use Rattle.layout.specs.Layout.{words_in_part, parent_in_part, size_in_part, rows_in_part, table_in_part, child_in_part, words_in_row, distance_in_row, below_in_row, part_word}
 use Rattle.part_words.specs.Part.{rows_in}
 use Rattle.row_lists.specs.Rows.{owner_at, child_at, below_at, shows_own, Fits}

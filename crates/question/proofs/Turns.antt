@@ -2,44 +2,43 @@
 -- Assumes nothing.
 use mathlib.Core.Path.{◌≡◌, refl, sym, ap, subst, subst⁻¹, ◌∙◌}
 use mathlib.Core.Logic.{◌⊎◌, inl, inr, ⊎_elim, ◌≢◌}
-use mathlib.Core.Bool.{Bool, true, false, cond, true≢false}
+use mathlib.Core.Bool.{Bool, true, false, true≢false}
 use mathlib.Core.List.{List, Memᴰ}
-use Prim.Native.Nat.{ℕ, zero, suc, ◌+◌, ◌-◌, ◌≤◌, ◌<◌, min}
+use Prim.Native.Nat.{ℕ, ◌-◌, ◌≤◌, ◌<◌}
 use native.Mathlib.Decide.{dec_lt, ℕ_discrete}
 use native.Mathlib.Omega.{arith}
-use lib.ListN.{length, set, take}
+use lib.ListN.{length, set}
 use lib.Seq.{get_or-set_same, get_or-set_other}
 use borrow.Author.Tests.{eq-eqb}
 use Rattle.words.specs.Limits.{FAR}
-use Rattle.words.specs.Lists.{word, keep}
+use Rattle.words.specs.Lists.{word}
 use Rattle.words.proofs.Tests.{true_or_false}
 use Rattle.roads.specs.Map.{Map, part_count}
 use Rattle.roads.specs.Dist.{dist}
 use Rattle.roads.proofs.Trail.{Net}
-use Rattle.roads.proofs.Laws.{dist_most}
-use Rattle.parts.specs.Tree.{parent_of, leaf_of, in_part, holds, children, child_of, is_leaf}
-use Rattle.parts.specs.Border.{boundary, borders}
+use Rattle.parts.specs.Tree.{parent_of, holds, children, child_of, is_leaf}
+use Rattle.parts.specs.Border.{boundary}
 use Rattle.parts.specs.Size.{row_vertices, size_of}
 use Rattle.parts.proofs.Tree.{holds_says}
 use Rattle.parts.proofs.Down.{Tree, boundary_inside, children_says, children_has, child_inner, child_found, root_holds, child_holding, child_held, children_apart, boundary_row}
 use Rattle.parts.proofs.Gates.{rows_inner, boundary_border, row_held}
 use Rattle.maps.proofs.Distances.{sound_net, sound_tree}
 use Rattle.rows.specs.Row.{row_of}
-use Rattle.rows.proofs.Bounds.{KeyGate, key_gate, OutGate, out_gate}
+use Rattle.rows.proofs.Bounds.{key_gate, out_gate}
 use Rattle.fleet.specs.State.{State, active}
-use Rattle.fleet.specs.Question.{Listed, coming_from, sorted}
+use Rattle.fleet.specs.Question.{Listed}
 use Rattle.image.specs.Records.{row_vertex}
 use Rattle.far_sums.specs.Least.{Least}
 use Rattle.layout.specs.Layout.{rows_in_part, table_in_part, part_word}
 use Rattle.part_words.specs.Part.{rows_in}
-use Rattle.row_lists.specs.Rows.{owner_at, child_at, below_at, near_at}
+use Rattle.row_lists.specs.Rows.{child_at, below_at, near_at}
 use Rattle.part_keys.specs.Keys.{key_of, Spread}
 use Rattle.row_distances.specs.Distances.{out_of, Closer}
 use Rattle.cells.specs.Lowered.{lowered}
 use Rattle.part_bounds.specs.Bounds.{OpenedUp, GivenRow}
 use Rattle.far_sums.proofs.Lowering.{lowered_no_more, lowered_here, lowered_found, lowered_length}
 use Rattle.van_offers.specs.Genuine.{Genuine}
-use Rattle.question.specs.Kept.{BoundOutside, Coming, Covered, Waits, SearchingParts, is_looked_at}
+use Rattle.question.specs.Kept.{BoundOutside, Coming, Covered, Waits, SearchingParts}
 use Rattle.question.proofs.Shown.{parent_read, rows_read, owner_read, child_at_read, below_read, place_read, row_in_lem, child_of_border, row_below_lem}
 use Rattle.question.proofs.Exact.{still_honest, exact_in, known_in}
 use Rattle.question.proofs.Asked.{asked_is_row, asked_every, part_exact, part_known}
