@@ -2,7 +2,7 @@
 -- Assumes nothing.
 use mathlib.Core.Path.{◌≡◌, refl, sym, ap, ◌∙◌}
 use mathlib.Core.Bool.{Bool, true, false, cond}
-use mathlib.Core.List.{List, [], ◌∷◌, ◌++◌, append-nil}
+use mathlib.Core.List.{List, [], ◌∷◌, ◌++◌}
 use Prim.Native.Nat.{ℕ, zero, suc, ◌+◌, ◌-◌, ◌≤◌, ◌<◌}
 use native.Mathlib.Decide.{dec_lt}
 use native.Mathlib.Numerals.{add-one}
@@ -10,7 +10,7 @@ use native.Mathlib.Omega.{arith}
 use lib.ListN.{length, take, drop, length-drop}
 use lib.Seq.{take-append-le, drop-append-le, drop-drop}
 use lib.Dec.{leb, ltb}
-use borrow.Author.Tests.{lt-ltb, le-ltb, leb-true, ltb-true}
+use borrow.Author.Tests.{lt-ltb, le-ltb}
 use Rattle.roads.specs.Map.{Map, road_count, part_count}
 use Rattle.parts.specs.Size.{need}
 use Rattle.maps.specs.Bytes.{field}
@@ -31,7 +31,7 @@ use Rattle.desk_lines.specs.Read.{map_room, opening_bytes, longest_call, take_re
 use Rattle.desk_lines.specs.Desk.{memory_room, most_calls, bad_at, change_line, question_lines, serve, refused_opening, open_with, open_by, desk_by, desk_lines}
 use Rattle.desk_lines.proofs.Window.{turn_window, opening_window, take_window}
 use Rattle.desk_calls.specs.Served.{call_lines, call_state}
-use Rattle.desk_steps.specs.Plan.{Sequel, stops, goes_on, Plan, last_lines, call_plan, turn_plan, open_plan, judged_plan, taken_plan, begin_plan}
+use Rattle.desk_steps.specs.Plan.{Sequel, stops, goes_on, last_lines, call_plan, turn_plan, open_plan, judged_plan, taken_plan, begin_plan}
 
 -- calls that may still come where the next one is at `place`
 abbrev pub calls_left : ℕ → ℕ

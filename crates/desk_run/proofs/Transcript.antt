@@ -3,13 +3,13 @@
 use mathlib.Core.Path.{◌≡◌, refl, sym, ap, ◌∙◌, subst, subst⁻¹}
 use mathlib.Core.Logic.{◌⊎◌, inl, inr, ⊎_elim}
 use mathlib.Core.Bool.{Bool, true, false, cond}
-use mathlib.Core.List.{List, [], ◌∷◌, ◌++◌, append_assoc, append-nil}
+use mathlib.Core.List.{List, [], ◌++◌, append_assoc, append-nil}
 use Prim.Native.Nat.{ℕ, ◌+◌, ◌-◌, ◌≤◌, ◌<◌}
 use native.Mathlib.Decide.{dec_lt}
 use native.Mathlib.Omega.{arith}
 use lib.ListN.{length, take, drop, length-take, length-drop, take-append-drop, drop_of_length-le}
 use lib.Seq.{take-add, drop-append-le}
-use lib.Dec.{ltb, eqb}
+use lib.Dec.{ltb}
 use borrow.Author.Tests.{ltb-true, ne_eqb}
 use Rattle.words.specs.Lists.{gather}
 use Rattle.words.proofs.Tests.{clash}
@@ -20,14 +20,14 @@ use Rattle.desk_lines.specs.declared.line.Line.{Line}
 use Rattle.desk_lines.specs.Line.{text_of}
 use Rattle.desk_lines.specs.Written.{Wrote}
 use Rattle.desk_lines.specs.Read.{longest_call}
-use Rattle.desk_lines.specs.Desk.{most_calls, serve, desk_lines, desk_text}
+use Rattle.desk_lines.specs.Desk.{most_calls, serve, desk_text}
 use Rattle.desk_lines.proofs.Writing.{wrote_shown}
 use Rattle.desk_lines.proofs.Lines.{texts_append}
 use Rattle.desk_steps.specs.declared.Step.{Step}
-use Rattle.desk_steps.specs.Plan.{Sequel, stops, goes_on, Plan, turn_plan, begin_plan}
-use Rattle.desk_steps.specs.Step.{Leads, GoesBy, BeginStep, TurnStep}
+use Rattle.desk_steps.specs.Plan.{Sequel, stops, goes_on, turn_plan, begin_plan}
+use Rattle.desk_steps.specs.Step.{Leads, BeginStep, TurnStep}
 use Rattle.desk_run.specs.declared.Desk.{Desk}
-use Rattle.desk_run.specs.Desk.{window_bytes, needed_at, Fed, bytes_left, PackedLeft, packed_desk, filled_desk, after_step, NextStep}
+use Rattle.desk_run.specs.Desk.{window_bytes, needed_at, Fed, bytes_left, PackedLeft, packed_desk, filled_desk, after_step}
 use Rattle.desk_run.specs.Underway.{ReadsOn, Underway, starts, reads, writes, steps, WritesTranscript}
 use Rattle.desk_run.proofs.Moving.{part_left}
 use Rattle.desk_run.proofs.Plans.{calls_left, lines_to, turn_lines, turn_same, begin_lines, begin_same}

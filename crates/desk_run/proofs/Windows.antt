@@ -1,14 +1,14 @@
 -- A window that was filled shows enough, and a step leaves the program within its window and its buffer.
 -- Assumes nothing.
-use mathlib.Core.Path.{◌≡◌, refl, sym, ap, ◌∙◌, subst⁻¹}
-use mathlib.Core.Logic.{◌⊎◌, inl, inr, ⊎_elim}
+use mathlib.Core.Path.{◌≡◌, ap, ◌∙◌, subst⁻¹}
+use mathlib.Core.Logic.{inl, inr}
 use mathlib.Core.Bool.{Bool, true, false, cond}
 use mathlib.Core.List.{List}
 use Prim.Native.Nat.{ℕ, ◌+◌, ◌-◌, ◌≤◌, ◌<◌}
 use native.Mathlib.Decide.{dec_lt}
 use native.Mathlib.Omega.{arith}
 use lib.ListN.{length, take, drop, length-take}
-use lib.Dec.{ltb, eqb}
+use lib.Dec.{eqb}
 use borrow.Author.Tests.{lt-ltb}
 use Rattle.words.proofs.Tests.{clash}
 use Rattle.desk_lines.specs.Read.{longest_call}
@@ -16,7 +16,7 @@ use Rattle.desk_lines.specs.Desk.{most_calls}
 use Rattle.desk_steps.specs.declared.Step.{Step}
 use Rattle.desk_steps.specs.Step.{BeginStep, TurnStep}
 use Rattle.desk_run.specs.declared.Desk.{Desk}
-use Rattle.desk_run.specs.Desk.{window_bytes, needed_at, Fed, bytes_left, InWindow, PackedLeft, packed_desk, filled_desk, after_step, NextStep}
+use Rattle.desk_run.specs.Desk.{window_bytes, needed_at, Fed, bytes_left, InWindow, PackedLeft, filled_desk, after_step, NextStep}
 use Rattle.desk_run.proofs.Moving.{MovedBy}
 
 -- no step needs more bytes than a window has

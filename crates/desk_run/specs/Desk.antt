@@ -1,5 +1,5 @@
 -- What each function of the library does to where the program stands.
-use Rattle.std.specs.Prelude.{◌≡◌, ◌⊎◌, Bool, true, false, cond, List, ℕ, ◌+◌, ◌-◌, ◌≤◌, length, take, drop, ltb, eqb}
+use Rattle.std.specs.Prelude.{◌≡◌, ◌⊎◌, true, false, cond, List, ℕ, ◌+◌, ◌-◌, ◌≤◌, length, take, drop, ltb, eqb}
 use Rattle.desk_lines.specs.Read.{map_room, opening_bytes, longest_call}
 use Rattle.desk_lines.specs.Desk.{most_calls}
 use Rattle.desk_steps.specs.declared.Step.{Step}
