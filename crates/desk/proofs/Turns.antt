@@ -4,11 +4,9 @@ use mathlib.Core.Path.{◌≡◌, refl, sym, ap, ◌∙◌, subst⁻¹}
 use mathlib.Core.Logic.{inl, inr, ⊎_elim}
 use mathlib.Core.Bool.{false}
 use mathlib.Core.List.{List}
-use Prim.Native.Nat.{ℕ, ◌+◌, ◌-◌, ◌≤◌, ◌<◌}
+use Prim.Native.Nat.{ℕ, ◌+◌, ◌-◌, ◌≤◌}
 use native.Mathlib.Omega.{arith}
-use lib.ListN.{length}
-use Rattle.desk_lines.specs.Desk.{most_calls}
-use Rattle.desk_steps.specs.Step.{Room, step_bytes}
+use Rattle.desk_steps.specs.Step.{Room}
 use Rattle.desk_run.specs.declared.Desk.{Desk}
 use Rattle.desk_run.specs.Desk.{window_bytes, needed_at, Fed, InWindow, MayStep, fresh_desk, packed_desk, filled_desk, emptied_desk, NextStep}
 use Rattle.desk_run.proofs.Windows.{filled_fed}
