@@ -8,14 +8,14 @@ use native.Mathlib.Nat.{add-zero}
 use native.Mathlib.Omega.{arith}
 use lib.ListN.{length, get_or, take, drop}
 use lib.Seq.{get_or-drop}
-use lib.Dec.{leb, eqb}
+use lib.Dec.{leb}
 use borrow.Author.Tests.{le-leb, lt-leb, leb-true, eq-eqb, ne_eqb}
 use Rattle.maps.specs.Bytes.{number, field}
 use Rattle.desk_lines.specs.declared.record.Call.{Call}
 use Rattle.desk_lines.specs.declared.record.Request.{Request}
 use Rattle.desk_lines.specs.declared.record.Request.TheVariants.{Is}
 use Rattle.desk_lines.specs.declared.record.Turn.{Turn}
-use Rattle.desk_lines.specs.declared.record.Turn.TheVariants.{Over, Next}
+use Rattle.desk_lines.specs.declared.record.Turn.TheVariants.{Over}
 use Rattle.desk_lines.specs.declared.record.Opening.{Opening}
 use Rattle.desk_lines.specs.declared.record.Opening.TheVariants.{Start}
 use Rattle.desk_lines.specs.Read.{sized, call_of, record_size, turn_for, turn_of, opening_of}

@@ -1,6 +1,6 @@
 -- The records of a map, taken one after the other.
 -- Assumes nothing.
-use mathlib.Core.Path.{◌≡◌, refl, sym, ◌∙◌, ap}
+use mathlib.Core.Path.{◌≡◌, refl, sym, ◌∙◌}
 use mathlib.Core.Bool.{Bool, cond}
 use mathlib.Core.List.{List}
 use Prim.Native.Nat.{ℕ, zero, suc, ◌+◌, ◌-◌, ◌≤◌, ◌<◌}
@@ -9,7 +9,6 @@ use lib.ListN.{length}
 use lib.Dec.{leb, ltb}
 use borrow.Author.Tests.{le-leb, lt-leb, le-ltb, lt-ltb}
 use Rattle.maps.specs.Bytes.{field}
-use Rattle.desk_lines.specs.declared.record.Taken.{Taken}
 use Rattle.desk_lines.specs.declared.record.Taken.TheVariants.{TooLong, UpTo}
 use Rattle.desk_lines.specs.Read.{map_room, take_records}
 

@@ -1,11 +1,11 @@
 -- The text of each line, as it is put together.
 -- Assumes nothing.
 use mathlib.Core.Path.{◌≡◌, sym, ◌∙◌, ap}
-use mathlib.Core.List.{List, [], ◌∷◌, ◌++◌, append_assoc}
+use mathlib.Core.List.{[], ◌∷◌, ◌++◌, append_assoc}
 use Prim.Native.Nat.{ℕ}
 use Rattle.desk_lines.specs.declared.line.Line.{Line}
 use Rattle.desk_lines.specs.declared.line.Line.TheVariants.{Opened, Ok, No, Length, Van, Bad, End}
-use Rattle.desk_lines.specs.Line.{codes, decimal, line_text, text_of}
+use Rattle.desk_lines.specs.Line.{codes, decimal, text_of}
 use Rattle.desk_lines.specs.Written.{one_text, three_text}
 
 module _ {line : Line} where
