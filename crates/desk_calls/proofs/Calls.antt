@@ -1,13 +1,13 @@
 -- What a call does, from what the core does: its lines on any memory, and those of the map and the fleet that the memory shows.
 -- Assumes nothing.
-use mathlib.Core.Path.{◌≡◌, refl, sym, ap, ap₂, ◌∙◌}
+use mathlib.Core.Path.{◌≡◌, refl, sym, ap, ◌∙◌}
 use mathlib.Core.Logic.{⊎_elim}
-use mathlib.Core.Bool.{Bool, true, false, cond}
+use mathlib.Core.Bool.{true, false, cond}
 use mathlib.Core.List.{List, [], ◌∷◌, ◌++◌, map}
-use Prim.Native.Nat.{ℕ, zero, suc, ◌+◌, ◌*◌, ◌≤◌, ◌<◌, min}
+use Prim.Native.Nat.{ℕ, zero, suc, ◌+◌, ◌*◌, ◌≤◌, min}
 use native.Mathlib.Numerals.{add-one}
 use native.Mathlib.Omega.{arith}
-use lib.ListN.{length, take, drop, length-append, length-take, take-append-drop}
+use lib.ListN.{length, drop, length-append, length-take, take-append-drop}
 use lib.Seq.{take_all}
 use lib.Dec.{leb, ltb}
 use borrow.Author.Tests.{le-leb}
@@ -19,7 +19,7 @@ use Rattle.roads.specs.Map.{Map}
 use Rattle.parts.specs.Size.{need}
 use Rattle.fleet.specs.State.{State}
 use Rattle.fleet.specs.declared.Change.{Change}
-use Rattle.fleet.specs.Change.{Answer, refused, accepted, number_of, value_of}
+use Rattle.fleet.specs.Change.{Answer, refused, number_of, value_of}
 use Rattle.fleet.specs.Question.{Listed, listed_words, coming_from, sorted, nearest, question_in_range, Response, list_into, reply_by, reply}
 use Rattle.image.specs.Image.{image}
 use Rattle.calls.specs.Head.{Shows}
@@ -34,7 +34,7 @@ use Rattle.desk_lines.specs.Desk.{change_line, van_line, question_lines}
 use Rattle.desk_lines.proofs.Lines.{wrote_line, wrote_after, line_few, lines_few}
 use Rattle.desk_lines.proofs.Writing.{wrote_none, wrote_more}
 use Rattle.desk_calls.specs.Listed.{listed_at, van_lines, list_lines}
-use Rattle.desk_calls.specs.Served.{answer_words, most_lines, call_lines, Served}
+use Rattle.desk_calls.specs.Served.{answer_words, Served}
 use Rattle.desk_calls.proofs.Listed.{lines_shown}
 
 -- The lines of a list.

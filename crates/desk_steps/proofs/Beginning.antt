@@ -1,7 +1,6 @@
 -- The first step goes by its plan.
 -- Assumes nothing.
 use mathlib.Core.Path.{◌≡◌, refl, sym, ap, ◌∙◌, subst, subst⁻¹}
-use mathlib.Core.Logic.{⊎_elim}
 use mathlib.Core.Bool.{Bool, true, false, cond}
 use mathlib.Core.List.{List, [], ◌∷◌, ◌++◌}
 use Prim.Native.Nat.{ℕ, ◌+◌, ◌-◌, ◌≤◌, ◌<◌, min}
@@ -17,13 +16,12 @@ use Rattle.roads.specs.Map.{Map, road_count, part_count}
 use Rattle.parts.specs.Size.{need}
 use Rattle.maps.specs.Judge.{Judged, sound, judge}
 use Rattle.maps.proofs.Judged.{judged_sound}
-use Rattle.fleet.specs.State.{State, fresh_state}
-use Rattle.fleet.specs.Change.{Answer, refused, accepted, number_of}
+use Rattle.fleet.specs.State.{fresh_state}
+use Rattle.fleet.specs.Change.{Answer, accepted, number_of}
 use Rattle.fleet.proofs.Good.{fresh_good}
 use Rattle.image.specs.Image.{image}
-use Rattle.calls.specs.Head.{Shows}
 use Rattle.calls.specs.Outcome.{open_sound, open_judged, opening, Opened}
-use Rattle.calls.proofs.Run.{opened_memory, refused_memory}
+use Rattle.calls.proofs.Run.{opened_memory}
 use Rattle.counts.specs.declared.Counts.{Counts}
 use Rattle.answers.specs.declared.Reply.{Reply}
 use Rattle.answers.specs.Answered.{answered}
@@ -38,12 +36,11 @@ use Rattle.desk_lines.specs.declared.record.Opening.TheVariants.{Start}
 use Rattle.desk_lines.specs.declared.line.Line.{Line}
 use Rattle.desk_lines.specs.declared.line.Line.TheVariants.{Opened as OpenedLine}
 use Rattle.desk_lines.specs.Line.{text_of}
-use Rattle.desk_lines.specs.Read.{opening_bytes, take_records, record_size, opening_of}
+use Rattle.desk_lines.specs.Read.{opening_bytes, take_records, opening_of}
 use Rattle.desk_lines.specs.Desk.{memory_room, bad_at, refused_opening}
 use Rattle.desk_lines.specs.Written.{Wrote}
 use Rattle.desk_lines.proofs.Lines.{wrote_line}
 use Rattle.desk_lines.proofs.Window.{opening_within}
-use Rattle.desk_calls.specs.Served.{most_lines}
 use Rattle.desk_steps.specs.declared.Step.{Step}
 use Rattle.desk_steps.specs.Plan.{Sequel, stops, goes_on, Plan, last_lines, open_plan, judged_plan, taken_plan, begin_plan}
 use Rattle.desk_steps.specs.Step.{Room, LastStep, Leads, GoesBy, OpenStep, BeginStep}

@@ -3,7 +3,7 @@
 use mathlib.Core.Path.{◌≡◌, refl}
 use mathlib.Core.Bool.{true}
 use mathlib.Core.List.{List, [], ◌∷◌}
-use Prim.Native.Nat.{ℕ, ◌+◌, ◌*◌, ◌≤◌}
+use Prim.Native.Nat.{ℕ, ◌+◌, ◌≤◌}
 use native.Mathlib.Omega.{arith}
 use lib.ListN.{length}
 use Rattle.words.specs.Lists.{gather}
@@ -14,7 +14,7 @@ use Rattle.desk_lines.proofs.Lines.{line_few, lines_few, wrote_line}
 use Rattle.desk_lines.proofs.Writing.{wrote_more}
 use Rattle.desk_calls.specs.Served.{most_lines}
 use Rattle.desk_steps.specs.declared.Step.{Step}
-use Rattle.desk_steps.specs.Plan.{Plan, last_lines}
+use Rattle.desk_steps.specs.Plan.{last_lines}
 use Rattle.desk_steps.specs.Step.{Room, LastStep, GoesBy}
 
 module _ {out out' : List ℕ} {at end : ℕ} where

@@ -1,15 +1,13 @@
 -- The step for a call goes by its plan.
 -- Assumes nothing.
 use mathlib.Core.Path.{◌≡◌, refl, sym, ap, ◌∙◌, subst⁻¹}
-use mathlib.Core.Bool.{Bool, false, cond}
+use mathlib.Core.Bool.{false, cond}
 use mathlib.Core.List.{List, [], ◌∷◌, ◌++◌}
 use Prim.Native.Nat.{ℕ, ◌-◌, ◌≤◌, ◌<◌}
 use native.Mathlib.Omega.{arith}
 use lib.ListN.{length, drop}
 use lib.Seq.{take_at}
-use lib.Dec.{ltb}
 use borrow.Author.Tests.{lt-ltb, le-ltb}
-use Rattle.words.specs.Lists.{gather}
 use Rattle.roads.specs.Map.{Map}
 use Rattle.parts.specs.Size.{need}
 use Rattle.maps.specs.Sound.{Sound}
@@ -25,10 +23,8 @@ use Rattle.desk_lines.specs.declared.record.Turn.{Turn}
 use Rattle.desk_lines.specs.declared.record.Turn.TheVariants.{Over, Next}
 use Rattle.desk_lines.specs.declared.line.Line.{Line}
 use Rattle.desk_lines.specs.declared.line.Line.TheVariants.{End}
-use Rattle.desk_lines.specs.Line.{text_of}
 use Rattle.desk_lines.specs.Read.{turn_of}
 use Rattle.desk_lines.specs.Desk.{most_calls, bad_at}
-use Rattle.desk_lines.specs.Written.{Wrote}
 use Rattle.desk_lines.proofs.Window.{turn_within}
 use Rattle.desk_calls.specs.Served.{call_lines, call_state, Served}
 use Rattle.desk_steps.specs.declared.Step.{Step}

@@ -12,7 +12,7 @@ use Rattle.desk_lines.specs.declared.line.Line.{Line}
 use Rattle.desk_lines.specs.Line.{text_of}
 use Rattle.desk_lines.specs.Written.{Wrote}
 use Rattle.desk_lines.specs.Read.{opening_of}
-use Rattle.desk_lines.specs.Desk.{memory_room, most_calls}
+use Rattle.desk_lines.specs.Desk.{most_calls}
 use Rattle.desk_calls.specs.Served.{most_buffer}
 use Rattle.desk_steps.specs.declared.Step.{Step}
 use Rattle.desk_steps.specs.Plan.{Sequel, stops, goes_on, Plan, open_plan, turn_plan, begin_plan}
