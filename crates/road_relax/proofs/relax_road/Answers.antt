@@ -7,27 +7,27 @@ use Rattle.road_relax.proofs.relax_road.Goals as goal
 pub returns-then-offer-long : goal.returns-then-offer-long
 returns-then-offer-long c =
     let seen : Seen c.args.mem.now c.args.labels.now c.args.at c.args.u c.wide-to.result c.long.result c.long-2.result c.long-3.result =
-      record {
-        leaves = search rules;
-        sized = search rules;
-        to_is = search rules;
-        near_is = search rules;
-        weight_is = search rules;
-        far_is = search rules;
-      } in
+    record {
+      leaves = search rules;
+      sized = search rules;
+      to_is = search rules;
+      near_is = search rules;
+      weight_is = search rules;
+      far_is = search rules;
+    } in
     let both = stored _ _ c.args.keys.now _ _ _ _ _ _ seen (search rules) in
     record { labels_after = both.0; keys_after = c.wait_with.ensures ∙ both.1 }
 
 pub returns-else-offer-long : goal.returns-else-offer-long
 returns-else-offer-long c =
     let seen : Seen c.args.mem.now c.args.labels.now c.args.at c.args.u c.wide-to.result c.long.result c.long-2.result c.long-3.result =
-      record {
-        leaves = search rules;
-        sized = search rules;
-        to_is = search rules;
-        near_is = search rules;
-        weight_is = search rules;
-        far_is = search rules;
-      } in
+    record {
+      leaves = search rules;
+      sized = search rules;
+      to_is = search rules;
+      near_is = search rules;
+      weight_is = search rules;
+      far_is = search rules;
+    } in
     let both = passed _ _ c.args.keys.now _ _ _ _ _ _ seen (search rules) in
     record { labels_after = both.0; keys_after = both.1 }
