@@ -1,4 +1,4 @@
--- The loop's invariant: what is lent has the length that it had, and until it is over the program stands within its window. The measure: each step has the next place.
+-- `run` ends: each step has the next place. The loop's invariant: what is lent has the length that it had, and until it is over the program stands within its window.
 -- Assumes nothing.
 use Rattle.std.proofs.Common.{◌≡◌, ◌≤◌, length, ◌-◌, false}
 use Rattle.desk_run.specs.Desk.{InWindow}
