@@ -2,7 +2,7 @@
 // library tells it to; the steps between, and that what they give is right for any input, are in `desk_run`.
 #![tactic(auto)]
 
-ghost use Rattle.std.specs.Prelude.{◌≡◌, ◌≤◌, IfOk, length};
+ghost use Rattle.std.specs.Prelude.{◌≡◌, ◌≤◌, IfOk, OnErr, length};
 ghost use Rattle.desk_lines.specs.Desk.{memory_room};
 ghost use Rattle.desk_calls.specs.Served.{answer_words, most_buffer};
 ghost use Rattle.desk_steps.specs.Step.{step_bytes};
@@ -14,10 +14,11 @@ use packs::read_full;
 use std::io;
 use std::io::Read;
 
-// Reads on where the window shows too little. An error is one of reading.
+// Reads on where the window shows too little. An error is one of reading; the window keeps its length.
 fn fed<R: Read>(input: &mut R, window: &mut [u8], s: Desk) -> io::Result<Desk>
     requires { InWindow s (length window.old) × (window_bytes ≤ length window.old) }
-    ensures { IfOk result (λ fed. FedFrom s fed (length window.old)) }
+    ensures ok { IfOk result (λ fed. FedFrom s fed (length window.old)) }
+    ensures err { OnErr result (length window.new ≡ length window.old) }
 {
     if !hungry(s) {
         return Ok(s);

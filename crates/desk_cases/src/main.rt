@@ -42,7 +42,7 @@ fn write_rows(rt: &impl Print, memory: &[u32; 16384], place: u32) -> io::Result<
     println!(rt; "")
 }
 
-// The record for `place`. An accepted change is counted in the sixth word.
+// The record for `place`. An accepted change is counted in the sixth word. An error is one of writing; the memory is as the call left it.
 fn step(
     rt: &impl Print,
     memory: &mut [u32; 16384],
