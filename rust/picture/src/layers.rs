@@ -96,7 +96,7 @@ mod tests {
 
     #[test]
     fn what_others_imply_is_left_out() {
-        let text = "# the file\n\n# low\na:\nb: a\n\n# high\nc staticlib: a b io\n";
+        let text = "# the file\n\n# low\na:\nb: a\n\n# high\nc: a b io\n";
         let layers = Layers::read(text).unwrap();
         assert_eq!(layers.layers.len(), 2);
         assert_eq!(layers.layers[1].about, "high");
@@ -105,5 +105,13 @@ mod tests {
         assert_eq!(layers.of_the_kit("c"), ["io"]);
         assert_eq!(layers.layer_of("b"), 0);
         assert!(Layers::read("# the file\na:\n").is_err());
+    }
+
+    #[test]
+    fn a_kind_is_no_part_of_the_name() {
+        let text = "# the file\n\n# low\na:\nb staticlib: a\n";
+        let layers = Layers::read(text).unwrap();
+        assert_eq!(layers.direct("b"), ["a"]);
+        assert_eq!(layers.layer_of("b"), 0);
     }
 }

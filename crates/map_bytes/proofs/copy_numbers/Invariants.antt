@@ -1,3 +1,5 @@
+-- `copy_numbers` copies number by number.
+-- Assumes nothing.
 use Prim.Native.Nat.{◌-◌}
 use native.Mathlib.Omega.{arith}
 use Rattle.map_bytes.proofs.Copying.{Copying, copying_start, copying_step, copying_done}

@@ -1,3 +1,4 @@
+-- `number4` is the number that the four bytes at a place give.
 use mathlib.Core.Path.{◌∙◌, ap₂}
 use Prim.Native.Nat.{ℕ, ◌+◌, ◌*◌}
 use Rattle.map_bytes.proofs.Numbers.{field_past, field_four}

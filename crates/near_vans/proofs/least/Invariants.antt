@@ -1,3 +1,5 @@
+-- `least` keeps the place of the least label that it has passed, and that label.
+-- Assumes nothing.
 use mathlib.Core.Path.{◌≡◌}
 use Prim.Native.Nat.{◌-◌, ◌≤◌}
 use lib.ListN.{get_or}

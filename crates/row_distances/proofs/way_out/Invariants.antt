@@ -1,3 +1,5 @@
+-- `way_out` is the least of the distances out of the child.
+-- Assumes nothing.
 use Prim.Native.Nat.{◌-◌, ◌≤◌}
 use Rattle.far_sums.specs.Least.{Least}
 use Rattle.row_distances.specs.Distances.{out_of}

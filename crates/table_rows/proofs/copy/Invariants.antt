@@ -1,3 +1,4 @@
+-- `table_rows::copy` meets its contract. The loop's invariant: the words passed are copied. Assumes nothing.
 use Prim.Native.Nat.{◌-◌, ◌≤◌}
 use mathlib.Core.Path.{refl}
 use lib.ListN.{get_or}

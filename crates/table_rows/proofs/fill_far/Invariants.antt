@@ -1,3 +1,5 @@
+-- `table_rows::fill_far` meets its contract. The loop's invariant: the words passed are FAR.
+-- Assumes nothing.
 use mathlib.Core.Path.{refl}
 use Prim.Native.Nat.{◌-◌, ◌≤◌}
 use Rattle.words.specs.Limits.{FAR}

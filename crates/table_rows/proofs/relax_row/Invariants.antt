@@ -1,3 +1,5 @@
+-- `table_rows::relax_row` meets its contract. The loop's invariant: the words passed are relaxed, the others as before.
+-- Assumes nothing.
 use native.Mathlib.Omega.{arith}
 use mathlib.Core.Path.{refl}
 use Prim.Native.Nat.{◌+◌, ◌-◌, ◌≤◌, min}

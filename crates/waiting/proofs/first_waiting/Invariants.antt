@@ -1,3 +1,4 @@
+-- `waiting::first_waiting` meets its contract. The loop's invariant: no vertex passed waits. Assumes nothing.
 use borrow.Author.Count.{below_more}
 use Prim.Native.Nat.{ℕ, ◌≤◌, ◌<◌, ◌-◌}
 use mathlib.Core.Path.{◌≡◌}
