@@ -1,3 +1,2 @@
 -- Laws that the crates above cite.
-pub mod Cases
 pub mod Determined

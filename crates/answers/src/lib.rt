@@ -1,14 +1,15 @@
-// What a call answers: that it is accepted, with its value, or which refusal it gets.
+// What a call answers: its value where it is accepted, or which refusal it gets.
 #![tactic(auto)]
 
-ghost use Rattle.std.specs.Prelude.{◌≡◌};
+ghost use Rattle.std.specs.Prelude.{◌≡◌, Err};
 ghost use Rattle.fleet.specs.Change.{number_of, value_of};
 ghost use Rattle.answers.specs.Answered.{answered};
 
-#[derive(Clone, Copy)]
-pub enum Reply {
-    // with the new stamp, the length of the list, the start number, or 0 for a road
-    Accepted(u32),
+// Ok with the new stamp, the length of the list, the start number, or 0 for a road.
+pub type Reply = Result<u32, Refusal>;
+
+#[derive(Clone, Copy, Debug, PartialEq, Eq)]
+pub enum Refusal {
     // a map record has a wrong length or kind, is cut, or bytes follow
     MapRecord,
     // a count in record 1 is outside its limits
@@ -43,54 +44,45 @@ pub enum Reply {
     WrongWay,
 }
 
-impl Reply {
-    // The scope's number: 0 for an accepted call, or the refusal.
+impl Refusal {
+    // The scope's number.
     pub fn number(self) -> u32
-        ensures { result ≡ number_of (answered self) }
+        ensures { result ≡ number_of (answered (Err self)) }
     {
         match self {
-            Reply::Accepted(_) => 0,
-            Reply::MapRecord => 1,
-            Reply::MapCounts => 2,
-            Reply::MapParts => 3,
-            Reply::MapRoads => 4,
-            Reply::TooFewWords => 5,
-            Reply::NotOpened => 6,
-            Reply::OutOfRange => 7,
-            Reply::NoSuchVan => 8,
-            Reply::VanPresent => 9,
-            Reply::NoRoad => 10,
-            Reply::OffsetAboveWeight => 11,
-            Reply::VanHeld => 12,
-            Reply::NotHeldByDesk => 13,
-            Reply::StampDiffers => 14,
-            Reply::CountFull => 15,
-            Reply::WrongWay => 20,
+            Refusal::MapRecord => 1,
+            Refusal::MapCounts => 2,
+            Refusal::MapParts => 3,
+            Refusal::MapRoads => 4,
+            Refusal::TooFewWords => 5,
+            Refusal::NotOpened => 6,
+            Refusal::OutOfRange => 7,
+            Refusal::NoSuchVan => 8,
+            Refusal::VanPresent => 9,
+            Refusal::NoRoad => 10,
+            Refusal::OffsetAboveWeight => 11,
+            Refusal::VanHeld => 12,
+            Refusal::NotHeldByDesk => 13,
+            Refusal::StampDiffers => 14,
+            Refusal::CountFull => 15,
+            Refusal::WrongWay => 20,
         }
     }
+}
 
-    // The stamp, length or start number of an accepted call; 0 for a road, and of a refused call.
-    pub fn value(self) -> u32
-        ensures { result ≡ value_of (answered self) }
-    {
-        match self {
-            Reply::Accepted(x) => x,
-            Reply::MapRecord => 0,
-            Reply::MapCounts => 0,
-            Reply::MapParts => 0,
-            Reply::MapRoads => 0,
-            Reply::TooFewWords => 0,
-            Reply::NotOpened => 0,
-            Reply::OutOfRange => 0,
-            Reply::NoSuchVan => 0,
-            Reply::VanPresent => 0,
-            Reply::NoRoad => 0,
-            Reply::OffsetAboveWeight => 0,
-            Reply::VanHeld => 0,
-            Reply::NotHeldByDesk => 0,
-            Reply::StampDiffers => 0,
-            Reply::CountFull => 0,
-            Reply::WrongWay => 0,
-        }
+// The scope's number: 0 for an accepted call, or the refusal's.
+pub fn number(reply: Reply) -> u32
+    ensures { result ≡ number_of (answered reply) }
+{
+    match reply {
+        Ok(_) => 0,
+        Err(refusal) => refusal.number(),
     }
+}
+
+// The stamp, length or start number of an accepted call; 0 for a road, and of a refused call.
+pub fn value(reply: Reply) -> u32
+    ensures { result ≡ value_of (answered reply) }
+{
+    reply.unwrap_or(0)
 }
