@@ -33,7 +33,7 @@ module _ (m : Map) (mem : List ℕ) (L : LaidForTables m mem) (p i : ℕ) (hp : 
     shown_part = reads (row_vertex m p i) (part_below m p (row_vertex m p i)) small mark_is
 
     -- no child holds it
-    shown_nowhere : c ≡ 0 → (d : ℕ) → RowIn m p i d → ⊥
+    pub shown_nowhere : c ≡ 0 → (d : ℕ) → RowIn m p i d → ⊥
     shown_nowhere none d di = (children_says m p d di.is_child).2 (sym (part_below_lem m L.sound p i d hi di) ∙ sym shown_part ∙ none)
 
     module _ (some : c ≢ 0) where
