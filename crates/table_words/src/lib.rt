@@ -1,13 +1,14 @@
 // Words of rows and tables: how they are read, and leveled.
 #![tactic(auto)]
 
-ghost use Rattle.std.specs.Prelude.{◌≡◌, ◌≢◌, ℕ, ◌+◌, ◌*◌, ◌<◌, MatchOption};
-ghost use Rattle.layout.specs.Layout.{size_in_part, rows_in_part, table_in_part, words_in_row, child_in_row, part_word};
+ghost use Rattle.std.specs.Prelude.{◌≡◌, ℕ, ◌+◌, ◌*◌, ◌<◌, MatchOption};
+ghost use Rattle.layout.specs.Layout.{rows_in_part, words_in_row, child_in_row, part_word};
 ghost use Rattle.roads.specs.Map.{Map, part_count};
 ghost use Rattle.parts.specs.Size.{size_of};
 ghost use Rattle.assembly.specs.Laid.{LaidForTables};
 ghost use Rattle.assembly.specs.Lower.{leveled};
-ghost use Rattle.assembly.specs.Steps.{RowIn, RowBelow};
+ghost use Rattle.assembly.specs.Steps.{RowIn};
+ghost use Rattle.table_words.specs.Rows.{RowsRead, StandsBelow};
 
 use cells::{lower, word};
 use layout::{PartRecord, RowRecord, part_word, row_word};
@@ -45,9 +46,7 @@ pub struct PartRows {
 impl PartRows {
     // Those of part p, as its record shows them.
     pub fn of(mem: &[u32], p: u32) -> PartRows
-        ensures first { result.first ≡ part_word mem.now p rows_in_part }
-        ensures table { result.table.at ≡ part_word mem.now p table_in_part }
-        ensures nodes { result.table.nodes ≡ part_word mem.now p size_in_part }
+        ensures { RowsRead mem.now p result }
     {
         PartRows {
             first: part_word(mem, p, PartRecord::ROWS),
@@ -69,7 +68,7 @@ pub struct Below {
 
 // That of row i of the rows that start at `first`, if a child holds its vertex.
 pub fn row_below(mem: &[u32], first: u32, i: u32) -> Option<Below>
-    ensures { (m : Map) (p : ℕ) → LaidForTables m mem.now → p < part_count m → i < size_of m p → first ≡ part_word mem.now p rows_in_part → MatchOption result ((c : ℕ) → RowIn m p i c → ⊥) (λ b. (b.part ≢ 0) × RowBelow m p i b.part b.rows.table.nodes b.rows.first b.rows.table.at b.row) }
+    ensures { (m : Map) (p : ℕ) → LaidForTables m mem.now → p < part_count m → i < size_of m p → first ≡ part_word mem.now p rows_in_part → MatchOption result ((c : ℕ) → RowIn m p i c → ⊥) (StandsBelow m p i) }
 {
     let part = part_of(row_word(mem, first, i, RowRecord::OWN));
     if part == 0 {
