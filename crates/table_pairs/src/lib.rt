@@ -1,29 +1,35 @@
 // The table of a part and those of its children: at the vertices that they share each word becomes the lesser of the two.
 #![tactic(auto)]
 
-ghost use Rattle.std.specs.Prelude.{◌≡◌, ℕ, ◌+◌, ◌*◌, ◌≤◌, ◌<◌, length};
+ghost use Rattle.std.specs.Prelude.{◌≡◌, ℕ, ◌≤◌, ◌<◌, length};
 ghost use Rattle.roads.specs.Map.{Map, part_count};
 ghost use Rattle.parts.specs.Size.{size_of};
 ghost use Rattle.assembly.specs.Laid.{LaidForTables};
-ghost use Rattle.assembly.specs.Steps.{AgreedPair, AgreedRow, Agreed, Lines};
+ghost use Rattle.assembly.specs.Steps.{AgreedPair, AgreedRow, Agreed};
+ghost use Rattle.table_words.specs.Rows.{RowsOf, StandsBelow};
 
 use layout::{PartRecord, RowRecord, part_word, row_word};
 use table_words::{Below, PartRows, level, part_of, place_of, row_below};
 
 // Row j, where its vertex stands in the child that holds that of row i: the words of the two vertices in the part and in the child become the lesser.
 fn level_pair(mem: &mut [u32], rows: PartRows, i: u32, below: Below, j: u32)
-    ensures agreed_pair { (m : Map) (low p k size : ℕ) → LaidForTables m mem.old → low ≤ p → p < part_count m → k < size_of m p → j < size_of m p → Lines m p k below.part size rows.first (rows.table.at + rows.table.nodes * i) below.rows.first (below.rows.table.at + below.rows.table.nodes * below.row) → AgreedPair m low p k j mem.old mem.new }
+    ensures agreed_pair { (m : Map) (low p : ℕ) → LaidForTables m mem.old → low ≤ p → p < part_count m → i < size_of m p → j < size_of m p → RowsOf m p rows → StandsBelow m p i below → AgreedPair m low p i j mem.old mem.new }
     ensures mem_len_unchanged { length mem.new ≡ length mem.old }
 {
     if part_of(row_word(mem, rows.first, j, RowRecord::OWN)) == below.part {
-        let k = place_of(row_word(mem, rows.first, j, RowRecord::BELOW), below.rows.first);
-        level(mem, rows.table.place(i, j), below.rows.table.place(below.row, k));
+        let k = place_of(
+            row_word(mem, rows.first, j, RowRecord::BELOW),
+            below.rows.first,
+        );
+        let a = rows.table.place(i, j);
+        let b = below.rows.table.place(below.row, k);
+        level(mem, a, b);
     }
 }
 
-// Row i and the row of its vertex in the child that holds it.
+// Row i, and the row of its vertex in the child that holds it.
 fn level_row(mem: &mut [u32], rows: PartRows, i: u32, below: Below)
-    ensures agreed_row { (m : Map) (low p k : ℕ) → LaidForTables m mem.old → low ≤ p → p < part_count m → k < size_of m p → Lines m p k below.part rows.table.nodes rows.first (rows.table.at + rows.table.nodes * i) below.rows.first (below.rows.table.at + below.rows.table.nodes * below.row) → AgreedRow m low p k (size_of m p) mem.old mem.new }
+    ensures agreed_row { (m : Map) (low p : ℕ) → LaidForTables m mem.old → low ≤ p → p < part_count m → i < size_of m p → RowsOf m p rows → StandsBelow m p i below → AgreedRow m low p i (size_of m p) mem.old mem.new }
     ensures mem_len_unchanged { length mem.new ≡ length mem.old }
 {
     for j in 0..rows.table.nodes {
