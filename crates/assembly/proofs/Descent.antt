@@ -1,7 +1,7 @@
 -- The tables of the children of a part, right over the whole map, by way of the boundary vertices and the part's own table; and so all tables.
 -- Assumes nothing.
 use mathlib.Core.Path.{◌≡◌, ap, ◌∙◌, subst, subst⁻¹}
-use mathlib.Core.Logic.{inl, inr, ⊎_elim, ◌≢◌}
+use mathlib.Core.Logic.{inl, inr, ⊎_elim}
 use mathlib.Core.Bool.{true}
 use mathlib.Core.List.{List, Memᴰ}
 use Prim.Native.Nat.{ℕ, suc, ◌+◌, ◌*◌, ◌≤◌, ◌<◌}
@@ -21,7 +21,7 @@ use Rattle.roads.proofs.Exact.{dist_exact}
 use Rattle.parts.specs.Tree.{parent_of, holds, children}
 use Rattle.parts.specs.Border.{boundary}
 use Rattle.parts.specs.Size.{row_vertices, size_of}
-use Rattle.parts.proofs.Down.{boundary_inside, children_has, root_holds}
+use Rattle.parts.proofs.Down.{boundary_inside, children_has, children_says, root_holds}
 use Rattle.parts.proofs.Gates.{boundary_above}
 use Rattle.maps.proofs.Distances.{sound_net, sound_tree}
 use Rattle.image.specs.Places.{table_of}
@@ -31,7 +31,7 @@ use Rattle.inner_walks.proofs.Down.{entered_least}
 use Rattle.table_rows.specs.Flat.{Tried}
 use Rattle.assembly.specs.Laid.{LaidForTables, Filled, table_entry}
 use Rattle.assembly.specs.Lower.{Lower, Inside, Short}
-use Rattle.assembly.specs.Steps.{RowIn, place_below, RowBelow, Agreed, Tight, EnteredRow, Entered, Risen, Descended}
+use Rattle.assembly.specs.Steps.{RowIn, place_below, Agreed, Tight, EnteredRow, Entered, Risen, Descended}
 use Rattle.assembly.proofs.Places.{row_is, row_real, laid_kept}
 use Rattle.assembly.proofs.Lowering.{lower_none, lower_then, inside_lower}
 use Rattle.assembly.proofs.Trying.{tried_lower, tried_tight, tried_keeps}
@@ -40,23 +40,22 @@ use Rattle.assembly.proofs.Rising.{row_of_vertex, vertex_row, by_vertices, by_ro
 
 -- ---- one row tried in the child that holds its vertex
 
-module _ {m : Map} {p i c size first table row : ℕ} (below : RowBelow m p i c size first table row) where
+module _ {m : Map} {p i : ℕ} where
   -- no child holds it
-  pub row_nowhere : c ≡ 0 → (mem : List ℕ) → EnteredRow m p i mem mem
-  row_nowhere none mem = record { lower = lower_none m 0 mem; tight = λ d di. absurd (below.alone none d di); keeps = λ q k _ _ tight. tight }
+  pub row_nowhere : ((c : ℕ) → RowIn m p i c → ⊥) → (mem : List ℕ) → EnteredRow m p i mem mem
+  row_nowhere alone mem = record { lower = lower_none m 0 mem; tight = λ d di. absurd (alone d di); keeps = λ q k _ _ tight. tight }
 
-  pub row_entered : c ≢ 0 → {mem after : List ℕ} → Tried table size row mem after → LaidForTables m mem → i < size_of m p → Inside m 0 mem → EnteredRow m p i mem after
-  row_entered some {mem} {after} T L hi I =
-      let ri = below.row_in_lem some in
-      let hc = below.is_part some in
+  pub row_entered : {c : ℕ} → RowIn m p i c → {mem after : List ℕ} → Tried (table_of m c) (size_of m c) (place_below m p i c) mem after → LaidForTables m mem → i < size_of m p →
+      Inside m 0 mem → EnteredRow m p i mem after
+  row_entered {c} ri {mem} {after} T L hi I =
+      let hc = (children_says m p c ri.is_child).0 in
       let k = place_below_lem m L.sound p i c hi ri in
-      let T' : Tried (table_of m c) (size_of m c) (place_below m p i c) mem after = rw (below.size_is some, below.table_is some, below.row_is some) at T in
       record {
-        lower = tried_lower m mem after L c (place_below m p i c) hc k.0 T' 0 (omega arith);
+        lower = tried_lower m mem after L c (place_below m p i c) hc k.0 T 0 (omega arith);
         tight = λ d di. subst (λ (x : ℕ). Tight m x (place_below m p i x) after) (row_one m L.sound p i c d ri di)
-            (tried_tight m mem after L c (place_below m p i c) hc k.0 T'
+            (tried_tight m mem after L c (place_below m p i c) hc k.0 T
             (I.inner c (place_below m p i c) (place_below m p i c) 0 (omega arith) hc k.0 k.0 (rest (subst⁻¹ (λ (v : ℕ). holds m c v ≡ true) k.1 ri.is_held))));
-        keeps = λ q l hq hl tight. tried_keeps m mem after L c (place_below m p i c) hc k.0 T' q l hq hl tight;
+        keeps = λ q l hq hl tight. tried_keeps m mem after L c (place_below m p i c) hc k.0 T q l hq hl tight;
       }
 
 -- ---- row after row

@@ -9,16 +9,16 @@ use native.Mathlib.Omega.{arith}
 use lib.ListN.{length, get_or, length-set}
 use Rattle.words.specs.Lists.{word}
 use Rattle.cells.specs.Lowered.{lowered}
-use Rattle.layout.specs.Layout.{size_in_part, rows_in_part, table_in_part, words_in_row, own_in_row, child_in_row, below_in_row, part_word, row_word}
+use Rattle.layout.specs.Layout.{size_in_part, rows_in_part, words_in_row, own_in_row, child_in_row, below_in_row, part_word, row_word}
 use Rattle.roads.specs.Map.{Map, part_count}
 use Rattle.roads.specs.Dist.{dist}
 use Rattle.parts.specs.Size.{size_of}
 use Rattle.parts.proofs.Down.{children_says}
-use Rattle.image.specs.Places.{table_of}
+use Rattle.image.specs.Places.{table_of, first_row_of}
 use Rattle.image.specs.Records.{row_vertex}
 use Rattle.assembly.specs.Laid.{LaidForTables, table_entry}
 use Rattle.assembly.specs.Lower.{leveled, Honest, Lower}
-use Rattle.assembly.specs.Steps.{RowIn, place_below, RowBelow, AgreedFor, AgreedPair, AgreedRow, Agreed, Lines}
+use Rattle.assembly.specs.Steps.{RowIn, place_below, AgreedFor, AgreedPair, AgreedRow, Agreed}
 use Rattle.assembly.proofs.Places.{laid_kept}
 use Rattle.assembly.proofs.Lowering.{lower_none, lower_then, lower_one, lower_one_at}
 use Rattle.assembly.proofs.Below.{child_later, row_one, part_below_lem, place_below_lem}
@@ -105,6 +105,15 @@ module _ {m : Map} {low p : ℕ} {Of : ℕ → ℕ → Type 0} where
 
 -- ---- as the words of the memory show it
 
+-- where the words of row i of p and of its row in c stand
+pub record Lines (m : Map) (p i c size first line firstBelow lineBelow : ℕ) : Type 0 where
+  pub row_in_lem : RowIn m p i c
+  pub size_is : size ≡ size_of m p
+  pub first_is : first ≡ first_row_of m p
+  pub line_is : line ≡ table_of m p + size_of m p * i
+  pub first_below_is : firstBelow ≡ first_row_of m c
+  pub line_below_is : lineBelow ≡ table_of m c + size_of m c * place_below m p i c
+
 -- row j stands in another child, or in none: nothing is to be done
 pub pair_apart : (mem : List ℕ) {j c mark part first line firstBelow lineBelow : ℕ} → mark ≡ row_word mem first j own_in_row →
     ((v d : ℕ) → v < child_in_row → mark ≡ v + child_in_row * d → part ≡ d) → (part ≡ c → ⊥) →
@@ -151,27 +160,6 @@ pub leveled_length : (mem : List ℕ) (a b : ℕ) → length (leveled mem a b) �
 unfolding leveled
 leveled_length mem a b = length-set (lowered mem a (get_or mem b 0)) b _ ∙ length-set mem a _
 
-module _ (start : List ℕ) (size first line c firstBelow lineBelow : ℕ) where
-  abbrev pub RowTo : ℕ → List ℕ → Type 0
-  RowTo j mem = (m : Map) (low p i : ℕ) → LaidForTables m start → low ≤ p → p < part_count m → i < size_of m p → Lines m p i c size first line firstBelow lineBelow → AgreedRow m low p i j start mem
-
-  pub row_first : RowTo 0 start
-  row_first m low p i L hl hp hi at = agreed_none (λ c k l of _ _ _ _. absurd (omega (arith, of.1)))
-
-  pub row_turn : (before after : List ℕ) (j : ℕ) → j < size → RowTo j before →
-      ((m : Map) (low p i size : ℕ) → LaidForTables m before → low ≤ p → p < part_count m → i < size_of m p → j < size_of m p → Lines m p i c size first line firstBelow lineBelow → AgreedPair m low p i j before after) →
-      RowTo (j + 1) after
-  row_turn before after j hj done pair m low p i L hl hp hi at =
-      let A = done m low p i L hl hp hi at in
-      let fits : j < size_of m p = omega (arith, at.size_is) in
-      agreed_then L hl hp (λ k l of _. elim (eq-or-lt_of_le of.1) [ inl now ↦ inr (of.0, omega arith) | inr less ↦ inl (of.0, omega arith) ]) A
-      (pair m low p i size (laid_kept m start before A.lower.sized A.lower.outside L) hl hp hi fits at)
-
-  pub row_done : (mem : List ℕ) (j : ℕ) → j ≤ size → size ≤ j → RowTo j mem → (m : Map) (low p i : ℕ) → LaidForTables m start → low ≤ p → p < part_count m → i < size_of m p →
-      Lines m p i c size first line firstBelow lineBelow → AgreedRow m low p i (size_of m p) start mem
-  row_done mem j within all done m low p i L hl hp hi at =
-      subst (λ (n : ℕ). AgreedRow m low p i n start mem) (omega (arith, at.size_is)) (done m low p i L hl hp hi at)
-
 module _ (start : List ℕ) (p : ℕ) where
   abbrev pub RowsTo : ℕ → List ℕ → Type 0
   RowsTo i mem = (m : Map) (low : ℕ) → LaidForTables m start → low ≤ p → p < part_count m → Agreed m low p i start mem
@@ -191,23 +179,3 @@ module _ (start : List ℕ) (p : ℕ) where
       (m : Map) (low : ℕ) → LaidForTables m start → low ≤ p → p < part_count m → Agreed m low p (size_of m p) start mem
   rows_done mem i within all shown done m low L hl hp =
       subst (λ (n : ℕ). Agreed m low p n start mem) (omega (arith, (L.part p hp).size)) (done m low L hl hp)
-
--- ---- row i as its words tell
-
-module _ {m : Map} {p i c size first table row : ℕ} (below : RowBelow m p i c size first table row) where
-  -- no child holds it: nothing is to be done
-  pub row_alone : c ≡ 0 → (low : ℕ) (mem : List ℕ) → AgreedRow m low p i (size_of m p) mem mem
-  row_alone none low mem = agreed_none (λ d k l of _ _ dk _. below.alone none d (subst (λ (n : ℕ). RowIn m p n d) of.0 dk))
-
-  -- where its words and those of its row in the child stand
-  pub row_lines : c ≢ 0 → {mem : List ℕ} → LaidForTables m mem → p < part_count m → {own ownFirst ownTable line lineBelow : ℕ} →
-      own ≡ part_word mem p size_in_part → ownFirst ≡ part_word mem p rows_in_part → ownTable ≡ part_word mem p table_in_part →
-      line ≡ ownTable + own * i → lineBelow ≡ table + size * row → Lines m p i c own ownFirst line first lineBelow
-  row_lines some L hp size_is first_is table_is line_is line_below_is = record {
-    row_in_lem = below.row_in_lem some;
-    size_is = size_is ∙ (L.part p hp).size;
-    first_is = first_is ∙ (L.part p hp).first_row;
-    line_is = line_is ∙ rw (table_is ∙ (L.part p hp).table, size_is ∙ (L.part p hp).size);
-    first_below_is = below.first_is some;
-    line_below_is = line_below_is ∙ rw (below.table_is some, below.size_is some, below.row_is some);
-  }

@@ -5,14 +5,14 @@ use mathlib.Core.Logic.{◌≢◌}
 use mathlib.Core.List.{List}
 use Prim.Native.Nat.{ℕ, ◌+◌, ◌*◌, ◌<◌}
 use native.Mathlib.Omega.{arith}
-use Rattle.layout.specs.Layout.{size_in_part, rows_in_part, table_in_part, words_in_row, own_in_row, child_in_row, below_in_row, part_word, row_word}
+use Rattle.layout.specs.Layout.{rows_in_part, words_in_row, own_in_row, child_in_row, below_in_row, part_word, row_word}
 use Rattle.roads.specs.Map.{Map, part_count}
 use Rattle.parts.specs.Size.{size_of}
 use Rattle.parts.proofs.Down.{children_says}
 use Rattle.image.specs.Image.{part_below}
 use Rattle.image.specs.Records.{row_vertex}
 use Rattle.assembly.specs.Laid.{LaidForTables}
-use Rattle.assembly.specs.Steps.{RowIn, place_below, RowBelow}
+use Rattle.assembly.specs.Steps.{RowIn, place_below}
 use Rattle.assembly.proofs.Places.{row_real}
 use Rattle.assembly.proofs.Below.{child_later, part_below_lem, part_below_says, row_below_lem}
 
@@ -33,7 +33,7 @@ module _ (m : Map) (mem : List ℕ) (L : LaidForTables m mem) (p i : ℕ) (hp : 
     shown_part = reads (row_vertex m p i) (part_below m p (row_vertex m p i)) small mark_is
 
     -- no child holds it
-    shown_nowhere : c ≡ 0 → (d : ℕ) → RowIn m p i d → ⊥
+    pub shown_nowhere : c ≡ 0 → (d : ℕ) → RowIn m p i d → ⊥
     shown_nowhere none d di = (children_says m p d di.is_child).2 (sym (part_below_lem m L.sound p i d hi di) ∙ sym shown_part ∙ none)
 
     module _ (some : c ≢ 0) where
@@ -48,20 +48,3 @@ module _ (m : Map) (mem : List ℕ) (L : LaidForTables m mem) (p i : ℕ) (hp : 
           finds (place_below m p i c)
           (points ∙ ap (λ (f : ℕ). row_word mem f i below_in_row) (first_is ∙ (L.part p hp).first_row) ∙ (L.row p i hp hi).below ∙ row_below_lem m L.sound p i c hi shown_in
           ∙ ap (λ (f : ℕ). f + words_in_row * place_below m p i c) (sym (below_is ∙ (L.part c shown_later.0).first_row)))
-
-pub below_shown : (mem : List ℕ) {i first mark part row size firstBelow table k : ℕ} → mark ≡ row_word mem first i own_in_row → ((v d : ℕ) → v < child_in_row → mark ≡ v + child_in_row * d → part ≡ d) →
-    size ≡ part_word mem part size_in_part → firstBelow ≡ part_word mem part rows_in_part → table ≡ part_word mem part table_in_part →
-    row ≡ row_word mem first i below_in_row → ((n : ℕ) → row ≡ firstBelow + words_in_row * n → k ≡ n) →
-    (m : Map) (p : ℕ) → LaidForTables m mem → p < part_count m → i < size_of m p → first ≡ part_word mem p rows_in_part → RowBelow m p i part size firstBelow table k
-below_shown mem {i} {part = part} shown reads size_is below_is table_is points finds m p L hp hi first_is = record {
-  alone = shown_nowhere m mem L p i hp hi first_is shown reads;
-  row_in_lem = shown_in m mem L p i hp hi first_is shown reads;
-  is_part = is_part;
-  size_is = λ some. size_is ∙ (L.part part (is_part some)).size;
-  first_is = λ some. below_is ∙ (L.part part (is_part some)).first_row;
-  table_is = λ some. table_is ∙ (L.part part (is_part some)).table;
-  row_is = λ some. shown_place m mem L p i hp hi first_is shown reads some below_is points finds;
-}
-  where
-    is_part : part ≢ 0 → part < part_count m
-    is_part some = (shown_later m mem L p i hp hi first_is shown reads some).0

@@ -1,11 +1,10 @@
 -- What each step of filling the tables leaves.
-use Rattle.std.specs.Prelude.{◌≡◌, ◌⊎◌, ◌≢◌, true, ℕ, ◌+◌, ◌*◌, ◌≤◌, ◌<◌, length}
+use Rattle.std.specs.Prelude.{◌≡◌, ◌⊎◌, true, ℕ, ◌+◌, ◌≤◌, ◌<◌, length}
 use mathlib.Core.List.{List, Memᴰ}
 use Rattle.words.specs.Lists.{word, place_in}
 use Rattle.roads.specs.Map.{Map, part_count, road_count, road_at}
 use Rattle.parts.specs.Tree.{parent_of, holds, children}
 use Rattle.parts.specs.Size.{row_vertices, size_of}
-use Rattle.image.specs.Places.{table_of, first_row_of}
 use Rattle.image.specs.Records.{row_vertex}
 use Rattle.table_rows.specs.Flat.{Tried}
 use Rattle.assembly.specs.Laid.{table_entry, OutsideTables}
@@ -21,17 +20,6 @@ place_below m p i c = place_in (row_vertex m p i) (row_vertices m c)
 pub record RowIn (m : Map) (p i c : ℕ) : Type 0 where
   pub is_child : Memᴰ c (children m p)
   pub is_held : holds m c (row_vertex m p i) ≡ true
-
--- what the words of row i of p tell of its row in the child that holds it: the child, 0 where none does, its size, where its rows and its table
--- start, and the row
-pub record RowBelow (m : Map) (p i part size first table row : ℕ) : Type 0 where
-  pub alone : part ≡ 0 → (c : ℕ) → RowIn m p i c → ⊥
-  pub row_in_lem : part ≢ 0 → RowIn m p i part
-  pub is_part : part ≢ 0 → part < part_count m
-  pub size_is : part ≢ 0 → size ≡ size_of m part
-  pub first_is : part ≢ 0 → first ≡ first_row_of m part
-  pub table_is : part ≢ 0 → table ≡ table_of m part
-  pub row_is : part ≢ 0 → row ≡ place_below m p i part
 
 -- ---- the words of a part and of its children, for the same two vertices
 
@@ -52,15 +40,6 @@ AgreedRow m low p i n = AgreedFor m low p (λ a b. (a ≡ i) × (b < n))
 -- for the first n rows, with all
 abbrev pub Agreed : Map → (low p n : ℕ) → List ℕ → List ℕ → Type 0
 Agreed m low p n = AgreedFor m low p (λ a b. a < n)
-
--- where the words of row i of p and of its row in c stand
-pub record Lines (m : Map) (p i c size first line firstBelow lineBelow : ℕ) : Type 0 where
-  pub row_in_lem : RowIn m p i c
-  pub size_is : size ≡ size_of m p
-  pub first_is : first ≡ first_row_of m p
-  pub line_is : line ≡ table_of m p + size_of m p * i
-  pub first_below_is : firstBelow ≡ first_row_of m c
-  pub line_below_is : lineBelow ≡ table_of m c + size_of m c * place_below m p i c
 
 -- ---- the roads of a part
 

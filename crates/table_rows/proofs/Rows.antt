@@ -4,14 +4,15 @@ use mathlib.Core.Path.{◌≡◌, refl, sym, ap, ◌∙◌}
 use mathlib.Core.Logic.{◌⊎◌, inl, inr, ⊎_elim, ◌≢◌}
 use mathlib.Core.List.{List}
 use Prim.Native.Nat.{ℕ, ◌+◌, ◌*◌, ◌-◌, ◌≤◌, ◌<◌, min}
-use native.Mathlib.Nat.{mul-le-mul_left, mul-suc, mul-zero, eq-or-lt_of_le}
-use native.Mathlib.Numerals.{add-one}
+use native.Mathlib.Nat.{mul-le-mul_left, mul-suc, eq-or-lt_of_le}
 use native.Mathlib.Decide.{dec_lt, ℕ_discrete}
 use native.Mathlib.Omega.{arith}
-use borrow.Rule.Slice.PartMut.{put_mid, take_put, drop_put, same_len_mid}
+use Rattle.std.proofs.lemmas.List.{places, get_or-replicate}
+use borrow.Author.Rules.{rules}
+use borrow.Rule.Slice.PartMut.{put_mid, same_len_mid}
 use borrow.Author.Tests.{eq-eqb, ne_eqb}
-use lib.ListN.{length, get_or, set, take, drop, length-take, length-drop, length-set, get_or-append}
-use lib.Seq.{get_or-take, get_or-drop, get_or-append-add, length-take-le, get_or-set_same, get_or-set_other}
+use lib.ListN.{length, get_or, set, take, drop, replicate, length-take, length-drop, length-replicate, length-set}
+use lib.Seq.{get_or-take, get_or-drop, get_or-set_same, get_or-set_other}
 use Rattle.words.specs.Limits.{most_borders, FAR}
 use Rattle.table_rows.specs.Flat.{entry, through, blank, Holds, RowIs, Begins, StartsWith, Becomes, Tried, Blanked}
 
@@ -26,24 +27,14 @@ module _ (words : List ℕ) (from to : ℕ) (rising : from ≤ to) (inside : to 
 
   module _ (new : List ℕ) where
     put_before : (i : ℕ) → i < from → get_or (put_mid from (to - from) words new) i 0 ≡ get_or words i 0
-    put_before i h =
-        sym (get_or-take from (put_mid from (to - from) words new) i 0 h)
-        ∙ ap (λ (l : List ℕ). get_or l i 0) (take_put from (to - from) words new (omega arith))
-        ∙ get_or-take from words i 0 h
+    put_before i h = search (rules, places)
 
     module _ (sized : length new ≡ to - from) where
       put_at : (i : ℕ) → from + i < to → get_or (put_mid from (to - from) words new) (from + i) 0 ≡ get_or new i 0
-      put_at i h =
-          ap (λ (m : ℕ). get_or (put_mid from (to - from) words new) (m + i) 0) (sym (length-take-le from words (omega arith)))
-          ∙ get_or-append-add (take from words) _ i 0
-          ∙ get_or-append new _ 0 i (omega arith)
+      put_at i h = search (rules, places)
 
       put_after : (i : ℕ) → to ≤ i → get_or (put_mid from (to - from) words new) i 0 ≡ get_or words i 0
-      put_after i h =
-          let e : to + (i - to) ≡ i = omega arith in
-          rw e at (sym (get_or-drop to (put_mid from (to - from) words new) (i - to) 0)
-          ∙ ap (λ (l : List ℕ). get_or l (i - to) 0) (drop_put from to words new rising inside sized)
-          ∙ get_or-drop to words (i - to) 0)
+      put_after i h = search (rules, places)
 
       pub put_outside : (i : ℕ) → (i < from) ⊎ (to ≤ i) → get_or (put_mid from (to - from) words new) i 0 ≡ get_or words i 0
       put_outside i out = ⊎_elim (put_before i) (put_after i) out
@@ -79,95 +70,89 @@ pub rows_apart : (n : ℕ) {a i : ℕ} → a < i → n * a + n ≤ n * i
 rows_apart n {a} h = rw mul-suc at (mul-le-mul_left n h)
 
 -- at row i of `count` rows, n words wide: the rows above have the words of `F`, the others are as at the start
-pub record Filling (count n : ℕ) (F : ℕ → ℕ → ℕ) (start words : List ℕ) (i at : ℕ) : Type 0 where
+pub record Filling (count n : ℕ) (F : ℕ → ℕ → ℕ) (start words : List ℕ) (i : ℕ) : Type 0 where
   pub fits : n * count ≤ length start
   pub sized : length words ≡ length start
-  pub within : i ≤ count
-  pub place : at ≡ n * i
   pub done : (a b : ℕ) → a < i → b < n → entry n words a b ≡ F a b
   pub left : (a b : ℕ) → i ≤ a → a < count → b < n → entry n words a b ≡ entry n start a b
 
-pub filling_first : (count n : ℕ) (F : ℕ → ℕ → ℕ) (start : List ℕ) → n * count ≤ length start → Filling count n F start start 0 0
+pub filling_first : (count n : ℕ) (F : ℕ → ℕ → ℕ) (start : List ℕ) → n * count ≤ length start → Filling count n F start start 0
 filling_first count n F start e = record {
   fits = e;
   sized = refl;
-  within = omega arith;
-  place = sym (mul-zero n);
   done = λ a b h. absurd (omega arith);
   left = λ a b _ _ _. refl;
 }
 
-module _ {count n : ℕ} {F : ℕ → ℕ → ℕ} {start words : List ℕ} {i at : ℕ} (s : Filling count n F start words i at) where
-  pub filling_room : i < count → at + n ≤ length words
-  filling_room h = omega (arith, rows_apart n h, s.place, s.fits, s.sized)
+module _ {count n : ℕ} {F : ℕ → ℕ → ℕ} {start words : List ℕ} {i : ℕ} (s : Filling count n F start words i) where
+  pub filling_room : i < count → n * i + n ≤ length words
+  filling_room h = omega (arith, rows_apart n h, s.fits, s.sized)
 
   pub filled : count ≤ i → Holds count n words F
   filled h = record { sized = omega (arith, s.fits, s.sized); each = λ a b ha hb. s.done a b (omega arith) hb }
 
   -- row i, as it is lent
-  pub filling_length : i < count → length (take (at + n - at) (drop at words)) ≡ n
-  filling_length h = part_length words at (at + n) (omega arith) (filling_room h) ∙ omega arith
+  pub filling_length : i < count → length (take (n * i + n - n * i) (drop (n * i) words)) ≡ n
+  filling_length h = part_length words (n * i) (n * i + n) (omega arith) (filling_room h) ∙ omega arith
 
-  pub filling_at : i < count → (b : ℕ) → b < n → get_or (take (at + n - at) (drop at words)) b 0 ≡ entry n start i b
-  filling_at h b hb = part_at words at (at + n) (omega arith) (filling_room h) b (omega arith) ∙ rw s.place (s.left i b (omega arith) h hb)
+  pub filling_at : i < count → (b : ℕ) → b < n → get_or (take (n * i + n - n * i) (drop (n * i) words)) b 0 ≡ entry n start i b
+  filling_at h b hb = part_at words (n * i) (n * i + n) (omega arith) (filling_room h) b (omega arith) ∙ s.left i b (omega arith) h hb
 
   -- row i has the words of `F`, and no word outside it has changed
-  filling_next : i < count → {after : List ℕ} → length after ≡ length words → ((b : ℕ) → b < n → get_or after (at + b) 0 ≡ F i b) →
-      ((x : ℕ) → (x < at) ⊎ (at + n ≤ x) → get_or after x 0 ≡ get_or words x 0) → Filling count n F start after (i + 1) (at + n)
+  filling_next : i < count → {after : List ℕ} → length after ≡ length words → ((b : ℕ) → b < n → get_or after (n * i + b) 0 ≡ F i b) →
+      ((x : ℕ) → (x < n * i) ⊎ (n * i + n ≤ x) → get_or after x 0 ≡ get_or words x 0) → Filling count n F start after (i + 1)
   filling_next h long own others = record {
     fits = s.fits;
     sized = long ∙ s.sized;
-    within = omega arith;
-    place = rw (add-one, mul-suc, s.place);
     done = λ a b ha hb. elim (eq-or-lt_of_le ha) [
       | inl q ↦
           let same : a ≡ i = omega arith in
-          rw (same, ← s.place) (own b hb)
+          rw same (own b hb)
       | inr l ↦
           let above : a < i = omega arith in
-          others (n * a + b) (inl (omega (arith, rows_apart n above, s.place))) ∙ s.done a b above hb
+          others (n * a + b) (inl (omega (arith, rows_apart n above))) ∙ s.done a b above hb
     ];
     left = λ a b ha hn hb.
         let below : i < a = omega arith in
-        others (n * a + b) (inr (omega (arith, rows_apart n below, s.place))) ∙ s.left a b (omega arith) hn hb;
+        others (n * a + b) (inr (omega (arith, rows_apart n below))) ∙ s.left a b (omega arith) hn hb;
   }
 
-  pub filling_step : i < count → {new : List ℕ} → RowIs n (F i) new → Filling count n F start (put_mid at (at + n - at) words new) (i + 1) (at + n)
+  pub filling_step : i < count → {new : List ℕ} → RowIs n (F i) new → Filling count n F start (put_mid (n * i) (n * i + n - n * i) words new) (i + 1)
   filling_step h {new} f =
       let inside = filling_room h in
-      let sized : length new ≡ at + n - at = omega (arith, f.sized) in
-      filling_next h (put_length words at (at + n) (omega arith) inside new sized)
-      (λ b hb. put_at words at (at + n) (omega arith) inside new sized b (omega arith) ∙ f.each b hb)
-      (put_outside words at (at + n) (omega arith) inside new sized)
+      let sized : length new ≡ n * i + n - n * i = omega (arith, f.sized) in
+      filling_next h (put_length words (n * i) (n * i + n) (omega arith) inside new sized)
+      (λ b hb. put_at words (n * i) (n * i + n) (omega arith) inside new sized b (omega arith) ∙ f.each b hb)
+      (put_outside words (n * i) (n * i + n) (omega arith) inside new sized)
 
   -- one word of row i is written, and the others have the words of `F` from the start
-  pub filling_one : i < count → (j : ℕ) → j < n → {v : ℕ} → v ≡ F i j → ((b : ℕ) → b < n → b ≢ j → entry n start i b ≡ F i b) → Filling count n F start (set words (at + j) v) (i + 1) (at + n)
+  pub filling_one : i < count → (j : ℕ) → j < n → {v : ℕ} → v ≡ F i j → ((b : ℕ) → b < n → b ≢ j → entry n start i b ≡ F i b) → Filling count n F start (set words (n * i + j) v) (i + 1)
   filling_one h j hj {v} e kept =
-      filling_next h (length-set words (at + j) v) (λ b hb. own b hb (ℕ_discrete b j))
-      (λ x out. get_or-set_other words (at + j) x v 0 (λ same. ⊎_elim (λ below. omega arith) (λ above. omega arith) out))
+      filling_next h (length-set words (n * i + j) v) (λ b hb. own b hb (ℕ_discrete b j))
+      (λ x out. get_or-set_other words (n * i + j) x v 0 (λ same. ⊎_elim (λ below. omega arith) (λ above. omega arith) out))
     where
-      own : (b : ℕ) → b < n → Dec (b ≡ j) → get_or (set words (at + j) v) (at + b) 0 ≡ F i b
-      own b hb (yes same) = rw same (get_or-set_same words (at + j) v 0 (omega (arith, filling_room h)) ∙ e)
+      own : (b : ℕ) → b < n → Dec (b ≡ j) → get_or (set words (n * i + j) v) (n * i + b) 0 ≡ F i b
+      own b hb (yes same) = rw same (get_or-set_same words (n * i + j) v 0 (omega (arith, filling_room h)) ∙ e)
       own b hb (no other) =
-          get_or-set_other words (at + j) (at + b) v 0 (λ same. other (omega arith))
-          ∙ rw s.place (s.left i b (omega arith) h hb ∙ kept b hb other)
+          get_or-set_other words (n * i + j) (n * i + b) v 0 (λ same. other (omega arith))
+          ∙ s.left i b (omega arith) h hb ∙ kept b hb other
 
 -- ---- one node tried
 
-module _ {n k : ℕ} {start words : List ℕ} {i at : ℕ} (s : Filling n n (through k (entry n start)) start words i at) where
+module _ {n k : ℕ} {start words : List ℕ} {i : ℕ} (s : Filling n n (through k (entry n start)) start words i) where
   -- row i is relaxed by a row that starts with row k
   module _ (hi : i < n) (hk : k < n) where
     module _ {row : List ℕ} (copied : StartsWith n k start row) where
-      pub relax_fits : length (take (at + n - at) (drop at words)) ≤ length row
+      pub relax_fits : length (take (n * i + n - n * i) (drop (n * i) words)) ≤ length row
       relax_fits = omega (arith, filling_length s hi, copied.fits)
 
       pub relaxed_row : {new : List ℕ} →
-          Begins (length (take (at + n - at) (drop at words))) (λ j. min (get_or (take (at + n - at) (drop at words)) j 0) (get_or words (at + k) 0 + get_or row j 0)) (take (at + n - at) (drop at words)) new →
+          Begins (length (take (n * i + n - n * i) (drop (n * i) words))) (λ j. min (get_or (take (n * i + n - n * i) (drop (n * i) words)) j 0) (get_or words (n * i + k) 0 + get_or row j 0)) (take (n * i + n - n * i) (drop (n * i) words)) new →
           RowIs n (through k (entry n start) i) new
       unfolding through
       relaxed_row e = record {
         sized = e.sized ∙ filling_length s hi;
-        each = λ b hb. e.each b (omega (arith, filling_length s hi)) ∙ rw (filling_at s hi b hb, copied.each b hb, s.place, s.left i k (omega arith) hi hk);
+        each = λ b hb. e.each b (omega (arith, filling_length s hi)) ∙ rw (filling_at s hi b hb, copied.each b hb, s.left i k (omega arith) hi hk);
       }
 
 -- the row that is copied first
@@ -178,22 +163,27 @@ module _ {n k : ℕ} (words : List ℕ) (hk : k < n) (fits : n * n ≤ length wo
   pub copy_length : length (take (n * k + n - n * k) (drop (n * k) words)) ≡ n
   copy_length = part_length words (n * k) (n * k + n) (omega arith) copy_room ∙ omega arith
 
-  pub copy_starts : {before : List ℕ} (row : List ℕ) → n ≤ length row →
-      Begins (length (take (n * k + n - n * k) (drop (n * k) words))) (λ j. get_or (take (n * k + n - n * k) (drop (n * k) words)) j 0) before row → StartsWith n k words row
-  copy_starts row wide e = record {
-    fits = wide;
-    each = λ j hj. e.each j (omega (arith, copy_length)) ∙ part_at words (n * k) (n * k + n) (omega arith) copy_room j (omega arith);
+  -- it is written at the start of a row that is no shorter
+  pub copy_starts : (row : List ℕ) → n ≤ length row → StartsWith n k words (put_mid 0 (n - 0) row (take (n * k + n - n * k) (drop (n * k) words)))
+  copy_starts row wide = record {
+    fits = omega (arith, put_length row 0 n (omega arith) wide (take (n * k + n - n * k) (drop (n * k) words)) (omega (arith, copy_length)));
+    each = λ j hj.
+        search (rules, places)
+        ∙ part_at words (n * k) (n * k + n) (omega arith) copy_room j (omega arith);
   }
 
 -- ---- a table blanked
 
-module _ {n : ℕ} {start words : List ℕ} {i at : ℕ} (s : Filling n n blank start words i at) where
+module _ {n : ℕ} {start words : List ℕ} {i : ℕ} (s : Filling n n blank start words i) where
   -- 0 is written on the diagonal, where FAR stands everywhere at the start
-  pub blanked_row : i < n → {before : List ℕ} → Begins (length before) (λ j. FAR) before start → Filling n n blank start (set words (at + i) 0) (i + 1) (at + n)
+  pub blanked_row : i < n → (long : ℕ) → start ≡ replicate long FAR → Filling n n blank start (set words (n * i + i) 0) (i + 1)
   unfolding blank
-  blanked_row h far =
+  blanked_row h long far =
       filling_one s h i h (rw (eq-eqb i i refl))
-      (λ b hb other. rw (ne_eqb i b (λ same. other (sym same))) (far.each (n * i + b) (omega (arith, rows_apart n h, s.fits, far.sized))))
+      (λ b hb other. rw (ne_eqb i b (λ same. other (sym same))) (all_far (n * i + b) (omega (arith, rows_apart n h, s.fits))))
+    where
+      all_far : (x : ℕ) → x < length start → get_or start x 0 ≡ FAR
+      all_far x hx = rw far (get_or-replicate long x FAR 0 (omega (arith, ap length far, length-replicate long FAR)))
 
 -- places in two rows differ, and two places in one row
 pub places_differ : (n a b i j : ℕ) → b < n → j < n → n * a + b ≡ n * i + j → (a ≡ i) × (b ≡ j)

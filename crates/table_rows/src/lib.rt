@@ -2,7 +2,7 @@
 // anywhere in a memory, and leaves all other words.
 #![tactic(auto)]
 
-ghost use Rattle.std.specs.Prelude.{◌≡◌, ◌+◌, ◌*◌, ◌≤◌, ◌<◌, min, length, get_or};
+ghost use Rattle.std.specs.Prelude.{◌≡◌, ◌+◌, ◌*◌, ◌≤◌, ◌<◌, min, length, get_or, replicate};
 ghost use Rattle.words.specs.Limits.{most_borders, FAR};
 ghost use Rattle.table_rows.specs.Flat.{entry, through, blank, Holds, StartsWith, Begins, Tried, Blanked};
 
@@ -12,18 +12,6 @@ use far_sums::FAR;
 // As many nodes as a part has rows.
 const MOST_NODES: usize = 128;
 
-// The lesser of `t` and `x + d`, which is added only where it fits.
-fn lesser_sum(t: u32, x: u32, d: u32) -> u32
-    ensures { result ≡ min t (x + d) }
-{
-    if x < t {
-        if d < t - x {
-            return x + d;
-        }
-    }
-    t
-}
-
 // The row `best` relaxed by `row`, which stands `x` away. Where that is no way, nothing is gained.
 fn relax_row(best: &mut [u32], row: &[u32], x: u32)
     requires { length best.old ≤ length row.now }
@@ -32,40 +20,20 @@ fn relax_row(best: &mut [u32], row: &[u32], x: u32)
     if x == FAR {
         return;
     }
-    let n = best.len();
-    let mut i = 0;
-    while i < n {
-        best[i] = lesser_sum(best[i], x, row[i]);
-        i += 1;
-    }
-}
-
-// The first words of `row` are those of `from`.
-fn copy(row: &mut [u32], from: &[u32])
-    requires { length from.now ≤ length row.old }
-    ensures { Begins (length from.now) (λ j. get_or from.now j 0) row.old row.new }
-{
-    let n = from.len();
-    let mut i = 0;
-    while i < n {
-        row[i] = from[i];
-        i += 1;
+    for (j, least) in best.iter_mut().enumerate() {
+        *least = x.saturating_add(row[j]).min(*least);
     }
 }
 
 // Every row of the table is relaxed by the row of `k`, of which `row` starts with a copy.
-fn try_node(table: &mut [u32], n: usize, k: usize, row: &[u32])
-    requires { (k < n) × (n * n ≤ length table.old) × StartsWith n k table.old row.now }
+fn try_rows(table: &mut [u32], n: usize, k: usize, row: &[u32])
+    requires { (k < n) × (n ≤ most_borders) × (n * n ≤ length table.old) × StartsWith n k table.old row.now }
     ensures { Holds n n table.new (through k (entry n table.old)) }
 {
-    let mut i = 0;
-    let mut at = 0;
-    while i < n {
-        let e = at + n;
+    for i in 0..n {
+        let at = n * i;
         let x = table[at + k];
-        relax_row(&mut table[at..e], row, x);
-        at = e;
-        i += 1;
+        relax_row(&mut table[at..at + n], row, x);
     }
 }
 
@@ -74,22 +42,10 @@ fn try_table(table: &mut [u32], n: usize, k: usize)
     requires { (k < n) × (n ≤ most_borders) × (n * n ≤ length table.old) }
     ensures { Holds n n table.new (through k (entry n table.old)) }
 {
-    let mut row = [0u32; 128];
-    let start = n * k;
-    let stop = start + n;
-    copy(&mut row, &table[start..stop]);
-    try_node(table, n, k, &row);
-}
-
-fn fill_far(row: &mut [u32])
-    ensures { Begins (length row.old) (λ j. FAR) row.old row.new }
-{
-    let n = row.len();
-    let mut i = 0;
-    while i < n {
-        row[i] = FAR;
-        i += 1;
-    }
+    let mut row = [0; MOST_NODES];
+    let at = n * k;
+    row[..n].copy_from_slice(&table[at..at + n]);
+    try_rows(table, n, k, &row);
 }
 
 // FAR everywhere, and 0 from each node to itself.
@@ -97,43 +53,47 @@ fn blank_table(table: &mut [u32], n: usize)
     requires { (n ≤ most_borders) × (n * n ≤ length table.old) }
     ensures { Holds n n table.new blank }
 {
-    fill_far(table);
-    let mut i = 0;
-    let mut at = 0;
-    while i < n {
-        table[at + i] = 0;
-        at += n;
-        i += 1;
+    table.fill(FAR);
+    for i in 0..n {
+        table[n * i + i] = 0;
     }
 }
 
-// Node k of the table of n nodes at `at` is tried.
-pub fn try_at(mem: &mut [u32], at: u32, n: u32, k: u32)
-    ensures { Tried at n k mem.old mem.new }
-{
-    let size = wide(n);
-    let node = wide(k);
-    let from = wide(at);
-    if size <= MOST_NODES {
-        if node < size {
-            let end = from + size * size;
-            if end <= mem.len() {
-                try_table(&mut mem[from..end], size, node);
-            }
+// A table in a memory: where it starts, and how many nodes it has.
+#[derive(Clone, Copy)]
+pub struct Table {
+    pub at: u32,
+    pub nodes: u32,
+}
+
+impl Table {
+    // Where the word of row i in column j stands.
+    pub fn place(self, i: u32, j: u32) -> usize
+        ensures { result ≡ self.at + self.nodes * i + j }
+    {
+        wide(self.at) + wide(self.nodes) * wide(i) + wide(j)
+    }
+
+    // Node k is tried.
+    pub fn try_node(self, mem: &mut [u32], k: u32)
+        ensures { Tried self.at self.nodes k mem.old mem.new }
+    {
+        let at = wide(self.at);
+        let n = wide(self.nodes);
+        let k = wide(k);
+        if n <= MOST_NODES && k < n && at + n * n <= mem.len() {
+            try_table(&mut mem[at..at + n * n], n, k);
         }
     }
-}
 
-// The table of n nodes at `at` is blanked.
-pub fn blank_at(mem: &mut [u32], at: u32, n: u32)
-    ensures { Blanked at n mem.old mem.new }
-{
-    let size = wide(n);
-    let from = wide(at);
-    if size <= MOST_NODES {
-        let end = from + size * size;
-        if end <= mem.len() {
-            blank_table(&mut mem[from..end], size);
+    // FAR everywhere, and 0 from each node to itself.
+    pub fn blank(self, mem: &mut [u32])
+        ensures { Blanked self.at self.nodes mem.old mem.new }
+    {
+        let at = wide(self.at);
+        let n = wide(self.nodes);
+        if n <= MOST_NODES && at + n * n <= mem.len() {
+            blank_table(&mut mem[at..at + n * n], n);
         }
     }
 }
