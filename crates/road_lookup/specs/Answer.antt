@@ -1,5 +1,5 @@
 -- What looking up a road comes to: its number, that only the other way is a road, or that neither is.
-use Rattle.std.specs.Prelude.{◌≡◌, cond, List, ℕ, Result, Ok, Err}
+use Rattle.std.specs.Prelude.{◌≡◌, ◌⊎◌, cond, List, ℕ, Result, Ok, Err}
 use Rattle.roads.specs.Map.{Map, road_between}
 use Rattle.maps.specs.Sound.{Sound}
 use Rattle.fleet.specs.Change.{is_road}
@@ -15,3 +15,7 @@ lookup_of m u v = cond (is_road m u v) (Ok (road_between m.roads u v)) (Err (con
 -- in a memory that has the roads of a sound map, the lookup on the map
 abbrev pub LookupTells : List ℕ → Counts → (u v : ℕ) → Result ℕ Refusal → Type 0
 LookupTells mem counts u v r = (m : Map) → Sound m → RoadsKnown m counts mem → r ≡ lookup_of m u v
+
+-- in any words, the refusals of a lookup
+abbrev pub MissingRoad : Refusal → Type 0
+MissingRoad refusal = (refusal ≡ NoRoad) ⊎ (refusal ≡ WrongWay)

@@ -2,9 +2,9 @@
 // Any numbers and any words are taken.
 #![tactic(auto)]
 
-ghost use Rattle.std.specs.Prelude.{◌≡◌};
+ghost use Rattle.std.specs.Prelude.{◌≡◌, IfErr};
 ghost use Rattle.road_lookup.specs.Lookup.{end_in, first_road_in, FirstTo, Between};
-ghost use Rattle.road_lookup.specs.Answer.{LookupTells};
+ghost use Rattle.road_lookup.specs.Answer.{LookupTells, MissingRoad};
 
 use answers::Refusal;
 use cells::word;
@@ -69,7 +69,8 @@ pub fn road_between(mem: &[u32], counts: Counts, from: u32, to: u32) -> Option<u
 
 // The number of the road from `from` to `to`, or whether only the other way is one. That is looked at only where there is none.
 pub fn look_up(mem: &[u32], counts: Counts, from: u32, to: u32) -> Result<u32, Refusal>
-    ensures { LookupTells mem.now counts from to result }
+    ensures tells { LookupTells mem.now counts from to result }
+    ensures refusals { IfErr result MissingRoad }
 {
     if let Some(road) = road_between(mem, counts, from, to) {
         return Ok(road);

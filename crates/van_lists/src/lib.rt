@@ -29,7 +29,6 @@ impl VanWords {
 
     pub const MOST_DESK: u32 = 255;
 
-
     pub const FREE: u32 = 1;
 
     pub const ABSENT: VanWords = VanWords {
