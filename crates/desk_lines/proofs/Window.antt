@@ -1,26 +1,25 @@
 -- The program reads its input through a window: what it finds there is what it would find in all that is left of the input, where the
 -- window has as many bytes as the longest call (for a call), as an opening record (for that), or as the map may have and a length field (for the map).
 -- Assumes nothing.
-use mathlib.Core.Path.{◌≡◌, refl, sym, ◌∙◌, ap}
+use mathlib.Core.Path.{◌≡◌, refl, sym, ◌∙◌, ap, ap₂}
 use mathlib.Core.Bool.{Bool, true, false, ◌&&◌, cond}
 use mathlib.Core.List.{List, ◌++◌}
+use Rattle.std.specs.Prelude.{Some, None, Result, Ok, Err}
 use Prim.Native.Nat.{ℕ, zero, suc, ◌+◌, ◌-◌, ◌≤◌, ◌<◌}
 use native.Mathlib.Decide.{dec_lt, ℕ_discrete}
 use native.Mathlib.Omega.{arith}
 use lib.ListN.{length, take, drop, length-append, length-take, length-drop}
 use lib.Seq.{take-append-le, drop-append-le}
-use lib.Dec.{leb, eqb}
-use borrow.Author.Tests.{eq-eqb, ne_eqb}
+use lib.Dec.{eqb}
+use borrow.Author.Tests.{ne_eqb}
 use Rattle.maps.specs.Bytes.{number, field}
+use Rattle.fleet.specs.declared.Change.TheVariants.{Add, Move}
 use Rattle.desk_lines.specs.declared.record.Call.{Call}
-use Rattle.desk_lines.specs.declared.record.Request.{Request}
-use Rattle.desk_lines.specs.declared.record.Request.TheVariants.{Is}
-use Rattle.desk_lines.specs.declared.record.Turn.{Turn}
-use Rattle.desk_lines.specs.declared.record.Turn.TheVariants.{Over, Next}
-use Rattle.desk_lines.specs.declared.record.Opening.{Opening}
-use Rattle.desk_lines.specs.declared.record.Opening.TheVariants.{Start}
-use Rattle.desk_lines.specs.Read.{map_room, opening_bytes, longest_call, take_records, sized, add_of, move_of, remove_of, claim_of, release_of, question_of, call_of, record_size, turn_for, turn_of, opening_of}
-use Rattle.desk_lines.proofs.Sized.{sized_no, size_short, size_cut, size_whole, size_fits, turn_bad, turn_call, opening_size}
+use Rattle.desk_lines.specs.declared.record.Call.TheVariants.{Changes}
+use Rattle.desk_lines.specs.declared.record.BadRecord.{BadRecord}
+use Rattle.desk_lines.specs.declared.record.Place.{Place}
+use Rattle.desk_lines.specs.Read.{map_room, opening_bytes, longest_call, take_records, bad, sized, put_by, place_of, add_of, move_of, remove_of, claim_of, release_of, question_of, call_of, record_size, turn_for, Turn, turn_in, turn_of, opening_in, opening_of}
+use Rattle.desk_lines.proofs.Sized.{sized_no, size_short, size_whole, size_fits, turn_is, opening_is}
 use Rattle.desk_lines.proofs.Taking.{none_left, take_long, take_next}
 
 -- a part of the window
@@ -32,52 +31,47 @@ pub field_within : (w more : List ℕ) (at size : ℕ) → at + size ≤ length 
 unfolding field
 field_within w more at size h = ap number (part_within w more at size h)
 
-either : (b : Bool) {r s : Request} → r ≡ Request.Bad → s ≡ Request.Bad → cond b r s ≡ Request.Bad
+either : (b : Bool) {r s : Result Call BadRecord} → r ≡ Err bad → s ≡ Err bad → cond b r s ≡ Err bad
 either true p q = p
 either false p q = q
 
 -- no call has a body of more than 10 bytes
-call_long : (kind : ℕ) (body : List ℕ) → 10 < length body → call_of kind body ≡ Request.Bad
-unfolding call_of add_of move_of remove_of claim_of release_of question_of
+call_long : (kind : ℕ) (body : List ℕ) → 10 < length body → call_of kind body ≡ Err bad
+unfolding call_of place_of add_of move_of remove_of claim_of release_of question_of
 call_long kind body h =
-    either (eqb kind 16) (bad 10 _ (omega arith))
-    (either (eqb kind 17) (bad 10 _ (omega arith))
-    (either (eqb kind 18) (bad 2 _ (omega arith))
-    (either (eqb kind 19) (bad 7 _ (omega arith))
-    (either (eqb kind 20) (bad 3 _ (omega arith))
-    (either (eqb kind 21) (bad 4 _ (omega arith))
+    either (eqb kind 16) (put (λ p. Changes (Add p.van p.from p.to p.offset)))
+    (either (eqb kind 17) (put (λ p. Changes (Move p.van p.from p.to p.offset)))
+    (either (eqb kind 18) (longer 2 _ (omega arith))
+    (either (eqb kind 19) (longer 7 _ (omega arith))
+    (either (eqb kind 20) (longer 3 _ (omega arith))
+    (either (eqb kind 21) (longer 4 _ (omega arith))
     refl)))))
   where
-    bad : (len : ℕ) (call : Call) → len < length body → sized len body call ≡ Request.Bad
-    bad len call shorter = sym (sized_no len body call (λ e. omega arith))
+    longer : {A : Type 0} (len : ℕ) (said : A) → len < length body → sized len body said ≡ Err bad
+    longer len said h = sym (sized_no len body said (λ e. omega arith))
+
+    put : (call : Place → Call) → put_by call (sized 10 body (record { van = field body 0 2; from = field body 2 2; to = field body 4 2; offset = field body 6 4 })) ≡ Err bad
+    put call = ap (put_by call) (longer 10 (record { van = field body 0 2; from = field body 2 2; to = field body 4 2; offset = field body 6 4 }) h)
 
 -- a record that is longer than any call is bad, cut or not
-turn_long : (bytes : List ℕ) → 0 < length bytes → 12 < field bytes 0 4 → turn_of bytes ≡ Turn.Bad
-turn_long bytes some h = by (dec_lt (length bytes) (4 + field bytes 0 4))
+turn_long : (bytes : List ℕ) → 0 < length bytes → 12 < field bytes 0 4 → turn_of bytes ≡ Err bad
+turn_long bytes some h = by (record_size bytes) refl
   where
-    len : ℕ
-    len = field bytes 0 4
+    by : (size : Result ℕ BadRecord) → record_size bytes ≡ size → turn_of bytes ≡ Err bad
+    by (Err e) is = turn_is bytes some is
+    by (Ok size) is =
+        let fits = size_fits bytes is in
+        turn_is bytes some is
+        ∙ ap (λ (c : Result Call BadRecord). turn_for c size)
+        (call_long (field bytes 4 2) (take (size - 6) (drop 6 bytes)) (omega (arith, fits, length-take (size - 6) (drop 6 bytes), length-drop 6 bytes)))
 
-    by : Dec (length bytes < 4 + field bytes 0 4) → turn_of bytes ≡ Turn.Bad
-    by (yes cut) = sym (turn_bad bytes 0 0 (size_cut bytes (field bytes 0 4) refl (omega arith) cut) (λ e. omega arith) refl)
-    by (no whole) =
-        let size : 4 + field bytes 0 4 ≡ record_size bytes = size_whole bytes (field bytes 0 4) refl (omega arith) (omega (arith, whole)) in
-        sym (turn_call bytes (4 + field bytes 0 4) (field bytes 4 2) size refl (λ e. omega arith) (λ e. omega arith) Request.Bad
-        (sym (call_long (field bytes 4 2) (take (4 + field bytes 0 4 - 6) (drop 6 bytes)) (omega (arith, whole, length-take (4 + field bytes 0 4 - 6) (drop 6 bytes), length-drop 6 bytes)))))
-
--- a record takes as many bytes as its length says, and four
-size_is : (bytes : List ℕ) → (record_size bytes ≡ 0 → ⊥) → record_size bytes ≡ 4 + field bytes 0 4
-unfolding record_size
-size_is bytes some = by (leb 2 (field bytes 0 4)) (leb (4 + field bytes 0 4) (length bytes)) some
+-- a record that is longer than an opening is no opening, cut or not
+opening_long : (bytes : List ℕ) → 6 < field bytes 0 4 → opening_of bytes ≡ Err bad
+opening_long bytes h = by (record_size bytes) refl
   where
-    by : (long whole : Bool) → (cond (long && whole) (4 + field bytes 0 4) 0 ≡ 0 → ⊥) → cond (long && whole) (4 + field bytes 0 4) 0 ≡ 4 + field bytes 0 4
-    by true true real = refl
-    by true false real = absurd (real refl)
-    by false whole real = absurd (real refl)
-
-opening_by : (a b : List ℕ) → record_size a ≡ record_size b → field a 4 2 ≡ field b 4 2 → field a 6 4 ≡ field b 6 4 → opening_of a ≡ opening_of b
-unfolding opening_of
-opening_by a b p q r = λ i. cond (eqb (p i) 10 && eqb (q i) 5) (Start (r i)) Opening.Bad
+    by : (size : Result ℕ BadRecord) → record_size bytes ≡ size → opening_of bytes ≡ Err bad
+    by (Err e) is = opening_is bytes is
+    by (Ok size) is = opening_is bytes is ∙ (λ i. cond (ne_eqb size 10 (λ ten. omega (arith, size_fits bytes is)) i && eqb (field bytes 4 2) 5) (Ok (field bytes 6 4)) (Err bad))
 
 module _ (w more : List ℕ) where
   longer : length (w ++ more) ≡ length w + length more
@@ -100,35 +94,34 @@ module _ (w more : List ℕ) where
   pub turn_window : longest_call ≤ length w → turn_of (w ++ more) ≡ turn_of w
   turn_window room = by (dec_lt 12 (field w 0 4))
     where
+      in-window : (size : Result ℕ BadRecord) → record_size w ≡ size → turn_in size (w ++ more) ≡ turn_in size w
+      in-window (Err e) is = refl
+      in-window (Ok size) is =
+          ap₂ (λ (kind : ℕ) (body : List ℕ). turn_for (call_of kind body) size)
+          (field_within w more 4 2 (omega arith)) (part_within w more 6 (size - 6) (omega (arith, size_fits w is)))
+
       by : Dec (12 < field w 0 4) → turn_of (w ++ more) ≡ turn_of w
       by (yes long) =
           turn_long (w ++ more) (omega (arith, longer)) (omega (arith, same_length (omega arith))) ∙ sym (turn_long w (omega arith) long)
-      by (no few) = sized-by (ℕ_discrete (record_size w) 0) (same_size (omega arith) (omega (arith, few)))
-        where
-          sized-by : Dec (record_size w ≡ 0) → record_size (w ++ more) ≡ record_size w → turn_of (w ++ more) ≡ turn_of w
-          sized-by (yes none) same =
-              sym (turn_bad (w ++ more) (record_size w) 0 (sym same) (λ e. omega (arith, longer)) none) ∙ turn_bad w (record_size w) 0 refl (λ e. omega arith) none
-          sized-by (no some) same =
-              sym (turn_call (w ++ more) (record_size w) (field w 4 2) (sym same) (sym (field_within w more 4 2 (omega arith))) (λ e. omega (arith, longer)) some
-              (call_of (field w 4 2) (take (record_size w - 6) (drop 6 w)))
-              (ap (call_of (field w 4 2)) (sym (part_within w more 6 (record_size w - 6) (omega (arith, size_fits w some))))))
-              ∙ turn_call w (record_size w) (field w 4 2) refl refl (λ e. omega arith) some (call_of (field w 4 2) (take (record_size w - 6) (drop 6 w))) refl
+      by (no few) =
+          turn_is (w ++ more) (omega (arith, longer)) (same_size (omega arith) (omega (arith, few)))
+          ∙ in-window (record_size w) refl
+          ∙ sym (turn_is w (omega arith) refl)
 
   -- the opening record is what a window for it shows
   pub opening_window : opening_bytes ≤ length w → opening_of (w ++ more) ≡ opening_of w
   opening_window room = by (dec_lt 6 (field w 0 4))
     where
+      in-window : (size : Result ℕ BadRecord) → opening_in size (w ++ more) ≡ opening_in size w
+      in-window (Err e) = refl
+      in-window (Ok size) = λ i. cond (eqb size 10 && eqb (field_within w more 4 2 (omega arith) i) 5) (Ok (field_within w more 6 4 (omega arith) i)) (Err bad)
+
       by : Dec (6 < field w 0 4) → opening_of (w ++ more) ≡ opening_of w
-      by (yes long) = not-ten (w ++ more) (omega (arith, same_length (omega arith))) ∙ sym (not-ten w long)
-        where
-          not-ten : (bytes : List ℕ) → 6 < field bytes 0 4 → opening_of bytes ≡ Opening.Bad
-          not-ten bytes h = sym (opening_size bytes (record_size bytes) 0 refl (λ ten. omega (arith, ten, size_is bytes (λ none. omega (arith, ten, none)))))
+      by (yes long) = opening_long (w ++ more) (omega (arith, same_length (omega arith))) ∙ sym (opening_long w long)
       by (no few) =
-          let same : record_size (w ++ more) ≡ record_size w = same_size (omega arith) (omega (arith, few)) in
-          opening-same same (field_within w more 4 2 (omega arith)) (field_within w more 6 4 (omega arith))
-        where
-          opening-same : record_size (w ++ more) ≡ record_size w → field (w ++ more) 4 2 ≡ field w 4 2 → field (w ++ more) 6 4 ≡ field w 6 4 → opening_of (w ++ more) ≡ opening_of w
-          opening-same p q r = opening_by (w ++ more) w p q r
+          opening_is (w ++ more) (same_size (omega arith) (omega (arith, few)))
+          ∙ in-window (record_size w)
+          ∙ sym (opening_is w refl)
 
   -- the map is what a window for it and a length field shows
   pub take_window : map_room + 4 ≤ length w → (n at : ℕ) → at ≤ map_room → take_records n at (w ++ more) ≡ take_records n at w
@@ -153,28 +146,34 @@ module _ (w more : List ℕ) where
           ∙ later within
           ∙ sym (take_next w at (field w at 4) refl (suc n) (omega arith) (omega arith) within ∙ (λ i. take_records (less i) (at + 4 + field w at 4) w))
 
--- A call's record lies within the bytes that show it.
-pub turn_within : (bytes : List ℕ) {call : Call} {size : ℕ} → turn_of bytes ≡ Next call size → size ≤ length bytes
-unfolding turn_of
-turn_within bytes {call} {size} e = by (eqb (length bytes) 0) (ℕ_discrete (record_size bytes) 0) e
-  where
-    shown : (request : Request) → turn_for request (record_size bytes) ≡ Next call size → size ≡ record_size bytes
-    shown Request.Bad f = let z : ◌≡◌ {A = ℕ} 0 1 = cc in absurd (omega arith)
-    shown (Is other) f = cc
+size_shown : Turn → ℕ
+size_shown (Ok (Some next)) = next.1
+size_shown (Ok None) = 0
+size_shown (Err bad') = 0
 
-    by : (empty : Bool) → Dec (record_size bytes ≡ 0)
-        → cond empty Over (cond (eqb (record_size bytes) 0) Turn.Bad (turn_for (call_of (field bytes 4 2) (take (record_size bytes - 6) (drop 6 bytes))) (record_size bytes))) ≡ Next call size
-        → size ≤ length bytes
-    by true d f = let z : ◌≡◌ {A = ℕ} 0 1 = cc in absurd (omega arith)
-    by false (yes none) f = let g : Turn.Bad ≡ Next call size = rw (eq-eqb (record_size bytes) 0 none) at f in let z : ◌≡◌ {A = ℕ} 0 1 = cc in absurd (omega arith)
-    by false (no some) f =
-        omega (arith, shown (call_of (field bytes 4 2) (take (record_size bytes - 6) (drop 6 bytes))) (rw (ne_eqb (record_size bytes) 0 some) at f), size_fits bytes some)
+-- A call's record lies within the bytes that show it.
+pub turn_within : (bytes : List ℕ) {call : Call} {size : ℕ} → turn_of bytes ≡ Ok (Some (call, size)) → size ≤ length bytes
+unfolding turn_of size_shown
+turn_within bytes {call} {size} e = by (eqb (length bytes) 0) (record_size bytes) refl e
+  where
+    same : (c : Result Call BadRecord) (n : ℕ) → turn_for c n ≡ Ok (Some (call, size)) → size ≡ n
+    same (Err bad') n f = absurd (cc)
+    same (Ok other) n f = sym (ap size_shown f)
+
+    by : (empty : Bool) (r : Result ℕ BadRecord) → record_size bytes ≡ r → cond empty (Ok None) (turn_in r bytes) ≡ Ok (Some (call, size)) → size ≤ length bytes
+    by true r is f = absurd (cc)
+    by false (Err bad') is f = absurd (cc)
+    by false (Ok n) is f = omega (arith, size_fits bytes is, same (call_of (field bytes 4 2) (take (n - 6) (drop 6 bytes))) n f)
 
 -- And so does an opening record.
-pub opening_within : (bytes : List ℕ) {start : ℕ} → opening_of bytes ≡ Start start → opening_bytes ≤ length bytes
+pub opening_within : (bytes : List ℕ) {start : ℕ} → opening_of bytes ≡ Ok start → opening_bytes ≤ length bytes
 unfolding opening_of
-opening_within bytes {start} e = by (ℕ_discrete (record_size bytes) 10) e
+opening_within bytes {start} e = by (record_size bytes) refl e
   where
-    by : Dec (record_size bytes ≡ 10) → cond (eqb (record_size bytes) 10 && eqb (field bytes 4 2) 5) (Start (field bytes 6 4)) Opening.Bad ≡ Start start → 10 ≤ length bytes
-    by (yes ten) f = omega (arith, ten, size_fits bytes (λ none. omega (arith, ten, none)))
-    by (no other) f = let g : Opening.Bad ≡ Start start = rw (ne_eqb (record_size bytes) 10 other) at f in let z : ◌≡◌ {A = ℕ} 0 1 = cc in absurd (omega arith)
+    by : (r : Result ℕ BadRecord) → record_size bytes ≡ r → opening_in r bytes ≡ Ok start → 10 ≤ length bytes
+    by (Err bad') is f = absurd (cc)
+    by (Ok n) is f = whole (ℕ_discrete n 10)
+      where
+        whole : Dec (n ≡ 10) → 10 ≤ length bytes
+        whole (yes ten) = omega (arith, size_fits bytes is)
+        whole (no other) = let g : Err bad ≡ Ok start = rw (ne_eqb n 10 other) at f in absurd (cc)

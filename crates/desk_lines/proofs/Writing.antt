@@ -8,10 +8,10 @@ use native.Mathlib.Nat.{add-zero}
 use native.Mathlib.Numerals.{add-one}
 use native.Mathlib.Omega.{arith}
 use lib.ListN.{length, set, take, drop, get_or, length-append}
-use lib.Seq.{length-take-le, take-suc, take_all, take_at, sets, length-sets, sets-eq}
+use lib.Seq.{length-take-le, take-suc, take_at, sets, length-sets, sets-eq}
 use lib.Dec.{ltb}
 use borrow.Author.Tests.{lt-ltb, le-ltb}
-use Rattle.desk_lines.specs.Line.{digits, decimal}
+use Rattle.desk_lines.specs.Line.{digits}
 use Rattle.desk_lines.specs.Written.{Wrote}
 
 pub sets_append : (out : List ℕ) (at : ℕ) (a b : List ℕ) → sets out at (a ++ b) ≡ sets (sets out at a) (at + length a) b
@@ -49,10 +49,6 @@ wrote_shown {out} {at} {new} {end} {out'} w room =
     ap (take end) (w.bytes ∙ sets-eq new out at (omega (arith, w.ends)))
     ∙ take_at (take at out ++ new) (drop (at + length new) out) end (length-append (take at out) new ∙ ap (λ (n : ℕ). n + length new) (length-take-le at out (omega (arith, w.ends))) ∙ sym w.ends)
 
--- no byte of a text
-pub wrote_start : (out : List ℕ) (at : ℕ) (text : List ℕ) → Wrote out at (take 0 text) (at + 0) out
-wrote_start out at text = record { ends = refl; bytes = refl }
-
 -- the first i bytes of a text, and one more
 pub wrote_next : (out : List ℕ) (at : ℕ) (text : List ℕ) (i : ℕ) (out₁ : List ℕ) {out₂ : List ℕ} → i < length text → Wrote out at (take i text) (at + i) out₁
     → out₂ ≡ set out₁ (at + i) (get_or text i 0) → Wrote out at (take (i + 1) text) (at + (i + 1)) out₂
@@ -61,10 +57,6 @@ wrote_next out at text i out₁ {out₂} h so_far e =
     let ends : at + (i + 1) ≡ (at + i) + 1 = omega arith in
     let longer : take (i + 1) text ≡ take i text ++ (get_or text i 0 ∷ []) = rw (add-one, take-suc text i 0) in
     record { ends = ends ∙ more.ends ∙ ap (λ (l : List ℕ). at + length l) (sym longer); bytes = more.bytes ∙ ap (sets out at) (sym longer) }
-
--- all of it
-pub wrote_all : (out : List ℕ) (at : ℕ) (text : List ℕ) (i : ℕ) (out₁ : List ℕ) → length text ≤ i → Wrote out at (take i text) (at + i) out₁ → Wrote out at text (at + i) out₁
-wrote_all out at text i out₁ h w = wrote_as text (take_all i text h) w
 
 -- a byte before what is written after it
 pub wrote_front : {out : List ℕ} {at b : ℕ} {new : List ℕ} {end : ℕ} {out₁ out₂ : List ℕ} → out₁ ≡ set out at b → Wrote out₁ (at + 1) new end out₂ → Wrote out at (b ∷ new) end out₂
@@ -80,12 +72,6 @@ digits_few (suc n) value = by (ltb value 10) (digits_few n (value / 10))
     by : (small : Bool) → length (digits n (value / 10)) ≤ n → length (cond small ((48 + value) ∷ []) (digits n (value / 10) ++ ((48 + value % 10) ∷ []))) ≤ suc n
     by true few = omega arith
     by false few = omega (arith, length-append (digits n (value / 10)) ((48 + value % 10) ∷ []))
-
-pub named_few : (place : ℕ) (name : List ℕ) → length (decimal place ++ name) ≤ 10 + length name
-named_few place name = omega (arith, length-append (decimal place) name, digits_few 10 place)
-
-pub number_few : (value : ℕ) → length (32 ∷ decimal value) ≤ 11
-number_few value = omega (arith, digits_few 10 value)
 
 pub digits_none : (most value : ℕ) → most ≡ 0 → digits most value ≡ []
 unfolding digits

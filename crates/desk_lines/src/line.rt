@@ -1,7 +1,7 @@
 // The lines that the desk program writes, into a lent buffer. A store past the buffer's end changes nothing.
-ghost use Rattle.std.specs.Prelude.{◌≡◌, ◌+◌, ◌≤◌, ◌<◌, ◌++◌, ◌∷◌, [], length, set};
-ghost use Rattle.desk_lines.specs.Line.{codes, digits, decimal, text_of};
-ghost use Rattle.desk_lines.specs.Written.{Wrote, one_text, three_text};
+ghost use Rattle.std.specs.Prelude.{◌≡◌, ◌+◌, ◌≤◌, ◌<◌, ◌++◌, ◌∷◌, [], length, map, set};
+ghost use Rattle.desk_lines.specs.Line.{codes, digits, decimal, spaced, text_of};
+ghost use Rattle.desk_lines.specs.Written.{Wrote};
 
 // A line but for its text: each starts with the place of its call, the opening being 0.
 #[derive(Clone, Copy)]
@@ -37,6 +37,8 @@ pub enum Line {
     },
 }
 
+// No struct holds the buffer and the place in it: each of its methods would have to ensure that it holds the same `&mut` still.
+
 fn put_byte(out: &mut [u8], at: usize, b: u8)
     ensures { out.new ≡ set out.old at b }
 {
@@ -50,12 +52,10 @@ fn put_text(out: &mut [u8], at: usize, text: &[u8]) -> usize
     requires { (at < 1099511627776) × (length text.now ≤ 16) }
     ensures { Wrote out.old at text.now result out.new }
 {
-    let mut i: usize = 0;
-    while i < text.len() {
-        put_byte(out, at + i, text[i]);
-        i += 1;
+    for (i, b) in text.iter().enumerate() {
+        put_byte(out, at + i, *b);
     }
-    at + i
+    at + text.len()
 }
 
 // A number in decimal, of at most `most` digits.
@@ -67,79 +67,45 @@ fn put_digits(out: &mut [u8], at: usize, value: u32, most: u32) -> usize
         return at;
     }
     if value < 10 {
-        put_byte(out, at, (48 + value) as u8);
+        put_byte(out, at, b'0' + value as u8);
         return at + 1;
     }
     let next = put_digits(out, at, value / 10, most - 1);
-    put_byte(out, next, (48 + value % 10) as u8);
+    put_byte(out, next, b'0' + (value % 10) as u8);
     next + 1
 }
 
-// A space and a number.
-fn put_number(out: &mut [u8], at: usize, value: u32) -> usize
-    requires { at < 4294967296 }
-    ensures { Wrote out.old at (32 ∷ decimal value) result out.new }
+// Numbers with a space before each, and the end of the line.
+fn put_numbers(out: &mut [u8], at: usize, numbers: &[u32]) -> usize
+    requires { (at < 4294967000) × (length numbers.now ≤ 3) }
+    ensures { Wrote out.old at (spaced (map decimal numbers.now)) result out.new }
 {
-    put_byte(out, at, b' ');
-    put_digits(out, at + 1, value, 10)
+    let mut end = at;
+    for number in numbers {
+        put_byte(out, end, b' ');
+        end = put_digits(out, end + 1, *number, 10);
+    }
+    put_byte(out, end, b'\n');
+    end + 1
 }
 
-// A place and a name.
-fn put_name(out: &mut [u8], at: usize, place: u32, name: &[u8]) -> usize
-    requires { (at < 4294967000) × (length name.now ≤ 16) }
-    ensures { Wrote out.old at (decimal place ++ name.now) result out.new }
+// A line that starts with its place: a name after it, and numbers.
+fn put_line(out: &mut [u8], at: usize, place: u32, name: &[u8], numbers: &[u32]) -> usize
+    requires { (at < 4294960000) × (length name.now ≤ 16) × (length numbers.now ≤ 3) }
+    ensures { Wrote out.old at (decimal place ++ name.now ++ spaced (map decimal numbers.now)) result out.new }
 {
-    let next = put_digits(out, at, place, 10);
-    put_text(out, next, name)
-}
-
-fn put_end(out: &mut [u8], at: usize) -> usize
-    requires { at < 4294967296 }
-    ensures { Wrote out.old at (10 ∷ []) result out.new }
-{
-    put_byte(out, at, b'\n');
-    at + 1
-}
-
-// A line with a name alone.
-fn put_none(out: &mut [u8], at: usize, place: u32, name: &[u8]) -> usize
-    requires { (at < 4294960000) × (length name.now ≤ 16) }
-    ensures { Wrote out.old at (decimal place ++ name.now ++ (10 ∷ [])) result out.new }
-{
-    let named = put_name(out, at, place, name);
-    put_end(out, named)
+    let placed = put_digits(out, at, place, 10);
+    let named = put_text(out, placed, name);
+    put_numbers(out, named, numbers)
 }
 
 // The last line.
 fn put_last(out: &mut [u8], at: usize, place: u32) -> usize
     requires { at < 4294960000 }
-    ensures { Wrote out.old at (codes "end" ++ (32 ∷ decimal place) ++ (10 ∷ [])) result out.new }
+    ensures { Wrote out.old at (codes "end" ++ spaced (map decimal (place ∷ []))) result out.new }
 {
     let named = put_text(out, at, b"end");
-    let numbered = put_number(out, named, place);
-    put_end(out, numbered)
-}
-
-// A line with one number.
-fn put_one(out: &mut [u8], at: usize, place: u32, name: &[u8], a: u32) -> usize
-    requires { (at < 4294960000) × (length name.now ≤ 16) }
-    ensures { Wrote out.old at (one_text (decimal place) name.now a) result out.new }
-{
-    let named = put_name(out, at, place, name);
-    let numbered = put_number(out, named, a);
-    put_end(out, numbered)
-}
-
-// A line with three.
-fn put_three(out: &mut [u8], at: usize, place: u32, name: &[u8], a: u32, b: u32, c: u32) -> usize
-    requires { (at < 4294960000) × (length name.now ≤ 16) }
-    ensures { Wrote out.old at (three_text (decimal place) name.now a b c) result out.new }
-{
-    let named = put_name(out, at, place, name);
-    let first = put_number(out, named, a);
-    let second = put_number(out, first, b);
-    let third = put_number(out, second, c);
-    put_end(out, third)
+    put_numbers(out, named, &[place])
 }
 
 // The line's text, from `at` on; where it ends.
@@ -152,17 +118,17 @@ pub fn write_line(out: &mut [u8], at: usize, line: Line) -> usize
             vertices,
             roads,
             parts,
-        } => put_three(out, at, 0, b" open", vertices, roads, parts),
-        Line::Ok { place, stamp } => put_one(out, at, place, b" ok", stamp),
-        Line::No { place, number } => put_one(out, at, place, b" no", number),
-        Line::Length { place, length } => put_one(out, at, place, b" list", length),
+        } => put_line(out, at, 0, b" open", &[vertices, roads, parts]),
+        Line::Ok { place, stamp } => put_line(out, at, place, b" ok", &[stamp]),
+        Line::No { place, number } => put_line(out, at, place, b" no", &[number]),
+        Line::Length { place, length } => put_line(out, at, place, b" list", &[length]),
         Line::Van {
             place,
             number,
             distance,
             stamp,
-        } => put_three(out, at, place, b" van", number, distance, stamp),
-        Line::Bad { place } => put_none(out, at, place, b" bad"),
+        } => put_line(out, at, place, b" van", &[number, distance, stamp]),
+        Line::Bad { place } => put_line(out, at, place, b" bad", &[]),
         Line::End { place } => put_last(out, at, place),
     }
 }

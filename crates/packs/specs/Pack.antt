@@ -1,13 +1,15 @@
--- What stands at a place of a pack: a length of 4 bytes, and so many bytes.
-use Rattle.std.specs.Prelude.{◌≡◌, true, false, List, ℕ, ◌+◌, ◌≤◌, ◌<◌, length, leb}
+-- The first item of a pack: a length of 4 bytes, and so many bytes.
+use Rattle.std.specs.Prelude.{List, ℕ, ◌+◌, ◌≤◌, length, take, drop}
 use Rattle.maps.specs.Bytes.{field}
-use Rattle.packs.specs.declared.Item.{Item}
 
-pub record ItemStands (pack : List ℕ) (at : ℕ) (item : Item) : Type 0 where
-  pub held : item.whole ≡ leb (at + 4 + field pack at 4) (length pack)
-  pub begins : item.whole ≡ true → item.start ≡ at + 4
-  pub ends : item.whole ≡ true → item.end ≡ at + 4 + field pack at 4
-  pub cut : item.whole ≡ false → (item.start ≡ length pack) × (item.end ≡ length pack)
-  pub after : at < item.end
-  pub order : item.start ≤ item.end
-  pub within : item.end ≤ length pack
+-- the pack holds the length and all bytes of the item
+abbrev pub HoldsItem : List ℕ → Type 0
+HoldsItem pack = 4 + field pack 0 4 ≤ length pack
+
+-- its bytes
+abbrev pub first_item : List ℕ → List ℕ
+first_item pack = take (field pack 0 4) (drop 4 pack)
+
+-- the bytes that come after it
+abbrev pub after_item : List ℕ → List ℕ
+after_item pack = drop (4 + field pack 0 4) pack

@@ -1,10 +1,10 @@
-// Packs: items one after the other, each as its length (4 bytes, little-endian) and its bytes. What stands at a place of one; and reading one, or another input.
+// Packs: items one after the other, each as its length (4 bytes, little-endian) and its bytes. The first item of one; and reading one, or another input.
 #![tactic(auto)]
 
-ghost use Rattle.std.specs.Prelude.{◌≡◌, ◌<◌, IfOk, OnErr, length, take};
+ghost use Rattle.std.specs.Prelude.{◌≡◌, ◌<◌, ◌↔◌, IsSome, IfSome, IfOk, OnErr, length, take};
 ghost use Rattle.std.specs.Io.{ReadsAtMost};
 ghost use Rattle.std.specs.Io.KnownBytes.{Consumes, IsAtEnd};
-ghost use Rattle.packs.specs.Pack.{ItemStands};
+ghost use Rattle.packs.specs.Pack.{HoldsItem, first_item, after_item};
 
 use map_bytes::number4;
 use std::fs::File;
@@ -12,37 +12,14 @@ use std::io::Read;
 use std::rt::Files;
 use std::{io, str};
 
-// The bytes from `start` to `end`, where the pack holds them whole; else what is left of it, and none of its bytes.
-#[derive(Clone, Copy)]
-pub struct Item {
-    pub start: usize,
-    pub end: usize,
-    pub whole: bool,
-}
-
-pub fn item_at(pack: &[u8], at: usize) -> Item
-    requires { at < length pack.now }
-    ensures { ItemStands pack.now at result }
+// The bytes of a pack's first item, and what follows it; None where the pack does not hold it whole.
+pub fn split_item(pack: &[u8]) -> Option<(&[u8], &[u8])>
+    ensures held { IsSome result ↔ HoldsItem pack.now }
+    ensures item { IfSome result (λ parts. parts.0.now ≡ first_item pack.now) }
+    ensures after { IfSome result (λ parts. parts.1.now ≡ after_item pack.now) }
 {
-    let size = pack.len();
-    let cut = Item {
-        start: size,
-        end: size,
-        whole: false,
-    };
-    if size - at < 4 {
-        return cut;
-    }
-    let start = at + 4;
-    let len = number4(pack, at) as usize;
-    if size - start < len {
-        return cut;
-    }
-    Item {
-        start,
-        end: start + len,
-        whole: true,
-    }
+    let rest = pack.get(4..)?;
+    rest.split_at_checked(number4(pack, 0) as usize)
 }
 
 // Reads until `bytes` is full or the input ends, and gives how many bytes stand at its start now. An error is one of reading, and leaves any bytes there.

@@ -1,29 +1,31 @@
 -- `record::next_call` is `turn_of`.
 -- Assumes nothing.
-use native.Mathlib.Omega.{arith}
-use Rattle.desk_lines.specs.declared.record.Request.{Request}
-use Rattle.desk_lines.proofs.Sized.{turn_over, turn_bad, turn_call, size_room}
+use Rattle.std.proofs.Common.{rules, ◌≡◌, sym, ◌∙◌, Ok, Err, arith}
+use Rattle.desk_lines.specs.Read.{bad}
+use Rattle.desk_lines.proofs.Sized.{turn_over, turn_bad, turn_call, size_fits}
 use Rattle.desk_lines.proofs.record.next_call.Goals as goal
 
-pub returns-then-bytes-eq0 : goal.returns-then-bytes-eq0
-returns-then-bytes-eq0 c = turn_over c.args.bytes.now c.if-bytes-eq0.true
+pub returns-then-is_empty : goal.returns-then-is_empty
+returns-then-is_empty c = sym (turn_over c.args.bytes.now (search rules))
 
-pub returns-then-size-eq0 : goal.returns-then-size-eq0
-returns-then-size-eq0 c = turn_bad c.args.bytes.now _ 0 c.record_size-size.ensures c.if-bytes-eq0.false c.if-size-eq0.true
+pub returns-in_err-size : goal.returns-in_err-size
+returns-in_err-size c =
+    let told : c.from_residual.result ≡ Err bad = search rules in
+    told ∙ sym (turn_bad c.args.bytes.now (search rules) (sym c.in_err-size.ensures))
 
-pub returns-in-Bad : goal.returns-in-Bad
-returns-in-Bad c =
-    turn_call c.args.bytes.now _ _ c.record_size-size.ensures c.number2.ensures.0 c.if-bytes-eq0.false c.if-size-eq0.false Request.Bad c.in-Bad.ensures
+pub slice_bounds-call_of-count : goal.slice_bounds-call_of-count
+slice_bounds-call_of-count c = omega (arith, size_fits c.args.bytes.now (sym c.in_ok-size.ensures))
 
-pub returns-in-Is : goal.returns-in-Is
-returns-in-Is c =
-    turn_call c.args.bytes.now _ _ c.record_size-size.ensures c.number2.ensures.0 c.if-bytes-eq0.false c.if-size-eq0.false _ c.in-Is.ensures
+pub slice_bounds-call_of-start : goal.slice_bounds-call_of-start
+slice_bounds-call_of-start c = omega (arith, size_fits c.args.bytes.now (sym c.in_ok-size.ensures))
 
-pub slice_bounds-body-count : goal.slice_bounds-body-count
-slice_bounds-body-count c = omega (arith, (size_room c.args.bytes.now _ 0 c.record_size-size.ensures c.if-size-eq0.false).0)
+pub slice_bounds-call_of-end : goal.slice_bounds-call_of-end
+slice_bounds-call_of-end c = omega (arith, size_fits c.args.bytes.now (sym c.in_ok-size.ensures))
 
-pub slice_bounds-body-start : goal.slice_bounds-body-start
-slice_bounds-body-start c = omega (arith, (size_room c.args.bytes.now _ 0 c.record_size-size.ensures c.if-size-eq0.false).0)
+pub returns-in_err-call : goal.returns-in_err-call
+returns-in_err-call c =
+    let told : c.from_residual-in_err-call.result ≡ Err bad = search rules in
+    told ∙ sym (turn_call c.args.bytes.now (search rules) (sym c.in_ok-size.ensures) (Err bad) (search rules))
 
-pub slice_bounds-body-end : goal.slice_bounds-body-end
-slice_bounds-body-end c = omega (arith, (size_room c.args.bytes.now _ 0 c.record_size-size.ensures c.if-size-eq0.false).1)
+pub returns : goal.returns
+returns c = sym (turn_call c.args.bytes.now (search rules) (sym c.in_ok-size.ensures) (Ok c.in_ok-call.call) (search rules))

@@ -1,13 +1,17 @@
 -- `record::opening_of` is `opening_of`.
 -- Assumes nothing.
-use Rattle.desk_lines.proofs.Sized.{opening_size, opening_kind, opening_start}
+use Rattle.std.proofs.Common.{rules, ◌≡◌, sym, ◌∙◌, Err}
+use Rattle.desk_lines.specs.Read.{bad}
+use Rattle.desk_lines.proofs.Sized.{opening_is}
 use Rattle.desk_lines.proofs.record.opening_of.Goals as goal
 
-pub returns-then-size-ne-OPENING_BYTES : goal.returns-then-size-ne-OPENING_BYTES
-returns-then-size-ne-OPENING_BYTES c = opening_size c.args.bytes.now _ 0 c.record_size-size.ensures c.if-size-ne-OPENING_BYTES.true
+pub returns-in_err-size : goal.returns-in_err-size
+returns-in_err-size c =
+    let told : c.from_residual.result ≡ Err bad = search rules in
+    told ∙ sym (opening_is c.args.bytes.now (sym c.in_err-size.ensures))
 
-pub returns-then-number2-ne5 : goal.returns-then-number2-ne5
-returns-then-number2-ne5 c = opening_kind c.args.bytes.now _ _ c.record_size-size.ensures c.number2.ensures.0 c.if-size-ne-OPENING_BYTES.false c.if-number2-ne5.true
+pub returns-then-size-ne-OPENING_BYTES : goal.returns-then-size-ne-OPENING_BYTES
+returns-then-size-ne-OPENING_BYTES c = rw (opening_is c.args.bytes.now (sym c.in_ok-size.ensures)) (search rules)
 
 pub returns : goal.returns
-returns c = opening_start c.args.bytes.now _ _ c.record_size-size.ensures c.number2.ensures.0 c.if-size-ne-OPENING_BYTES.false c.if-number2-ne5.false _ c.number4.ensures
+returns c = rw (opening_is c.args.bytes.now (sym c.in_ok-size.ensures)) (search rules)

@@ -1,10 +1,7 @@
 use mathlib.Core.Path.{◌≡◌}
-use Prim.Native.Nat.{◌≤◌}
+use Prim.Native.Nat.{◌-◌, ◌≤◌}
 use Rattle.desk_lines.specs.Read.{take_records}
 use Rattle.desk_lines.proofs.record.take_map.Given as goal
 
-abbrev pub invariant-loop-left : goal.invariant-loop-left
-invariant-loop-left l = (l.at ≤ 65536) × (take_records l.left l.at l.bytes ≡ take_records 4 0 l.bytes)
-
-abbrev pub decreases-loop-left : goal.decreases-loop-left
-decreases-loop-left l = l.left
+abbrev pub invariant-loop-i : goal.invariant-loop-i
+invariant-loop-i l = (l.at ≤ 65536) × (take_records (4 - l._i) l.at l.bytes ≡ take_records 4 0 l.bytes)
