@@ -36,6 +36,7 @@ pub fn number4(bytes: &[u8], at: usize) -> u32
 }
 
 // The record at `at` has this kind and this length, and is not cut.
+#[tactic(auto, unfolding(maps::specs::Bytes::is_record))]
 pub fn is_record(bytes: &[u8], at: u32, kind: u32, len: u32) -> bool
     ensures { result ≡ is_record bytes.now at kind len }
 {
@@ -46,6 +47,7 @@ pub fn is_record(bytes: &[u8], at: u32, kind: u32, len: u32) -> bool
 }
 
 // Number i of a record's body.
+#[tactic(auto, unfolding(maps::specs::Bytes::number_at))]
 pub fn number_at(body: &[u8], i: u32) -> u32
     ensures { result ≡ number_at body.now i }
 {
