@@ -1,7 +1,7 @@
 -- Roads as the code relaxes them, and as `relax` and `wake` do. Assumes nothing.
 use mathlib.Core.Path.{◌≡◌, refl, ◌∙◌}
 use mathlib.Core.List.{List, [], ◌∷◌}
-use Prim.Native.Nat.{ℕ, zero, suc, ◌+◌, ◌-◌, ◌≤◌, ◌<◌, min}
+use Prim.Native.Nat.{ℕ, zero, suc, ◌+◌, ◌*◌, ◌-◌, ◌≤◌, ◌<◌, min}
 use native.Mathlib.Nat.{not-suc-le-zero, le_of_suc-le-suc}
 use native.Mathlib.Numerals.{sub-one}
 use native.Mathlib.Omega.{arith}
@@ -74,12 +74,12 @@ pub record Left (mem : List ℕ) (at k u : ℕ) (labels₀ keys₀ labels keys :
   pub keys_left : wake_all (shown_roads mem here left) labels keys ≡ wake_all (shown_roads mem at k) labels₀ keys₀
 
 module _ {mem : List ℕ} {at k u : ℕ} {labels₀ keys₀ labels keys : List ℕ} {here : ℕ} where
-  pub left_first : {left : ℕ} → 0 < left → Left mem at k u labels₀ keys₀ labels keys here left → Leaves mem here u
+  left_first : {left : ℕ} → 0 < left → Left mem at k u labels₀ keys₀ labels keys here left → Leaves mem here u
   unfolding Fan
   left_first {left = zero} some now = absurd (not-suc-le-zero some)
   left_first {left = suc j} some now = now.fan.0
 
-  pub left_step : {left : ℕ} → 0 < left → Left mem at k u labels₀ keys₀ labels keys here left
+  left_step : {left : ℕ} → 0 < left → Left mem at k u labels₀ keys₀ labels keys here left
       → Left mem at k u labels₀ keys₀ (relax (shown_road mem here) labels) (wake (shown_road mem here) labels keys) (here + 4) (left - 1)
   unfolding Fan shown_roads relax_all wake_all
   left_step {left = zero} some now = absurd (not-suc-le-zero some)
@@ -97,3 +97,26 @@ module _ {mem : List ℕ} {at k u : ℕ} {labels₀ keys₀ labels keys : List �
   unfolding shown_roads relax_all wake_all
   left_none {left = zero} none now = (now.labels_left, now.keys_left)
   left_none {left = suc j} none now = absurd (not-suc-le-zero none)
+
+-- the first i roads are relaxed
+abbrev pub LeftAfter : (mem : List ℕ) (at k u : ℕ) (labels₀ keys₀ labels keys : List ℕ) (i : ℕ) → Type 0
+LeftAfter mem at k u labels₀ keys₀ labels keys i = Left mem at k u labels₀ keys₀ labels keys (at + 4 * i) (k - i)
+
+pub left_start : {mem : List ℕ} {at k u : ℕ} {labels keys : List ℕ} → Fan mem at k u → length labels ≡ most_vertices → LeftAfter mem at k u labels keys labels keys 0
+left_start {at = at} {k = k} fan long =
+    let here : at + 4 * 0 ≡ at = omega arith in
+    let all : k - 0 ≡ k = omega arith in
+    rw (here, all) (record { fan = fan; sized = long; labels_left = refl; keys_left = refl })
+
+module _ {mem : List ℕ} {at k u : ℕ} {labels₀ keys₀ labels keys : List ℕ} (i : ℕ) (below : i < k) (now : LeftAfter mem at k u labels₀ keys₀ labels keys i) where
+  some : 0 < k - i
+  some = omega arith
+
+  pub left_here : Leaves mem (at + 4 * i) u
+  left_here = left_first some now
+
+  pub left_next : LeftAfter mem at k u labels₀ keys₀ (relax (shown_road mem (at + 4 * i)) labels) (wake (shown_road mem (at + 4 * i)) labels keys) (i + 1)
+  left_next =
+      let there : at + 4 * (i + 1) ≡ at + 4 * i + 4 = omega arith in
+      let fewer : k - (i + 1) ≡ k - i - 1 = omega arith in
+      rw (there, fewer) (left_step some now)

@@ -8,28 +8,21 @@ ghost use Rattle.road_relax.specs.Relaxing.{shown_road, shown_roads, Leaves, Fan
 
 use cells::wide;
 use layout::RoadRecord;
-use waiting::{long, wait_with};
+use waiting::Waiting;
 
 // The road at `at`, which leaves `u`, is relaxed.
-fn relax_road(
-    mem: &[u32],
-    at: usize,
-    u: usize,
-    labels: &mut [u32; 4096],
-    keys: &mut [u32; 4096],
-    tree: &mut [u64; 1365],
-)
+fn relax_road(mem: &[u32], at: usize, u: usize, labels: &mut [u32; 4096], waiting: &mut Waiting)
     requires leaves { Leaves mem.now at u }
     requires labels_len { length labels.old ≡ most_vertices }
     ensures labels_after { labels.new ≡ relax (shown_road mem.now at) labels.old }
-    ensures keys_after { keys.new ≡ wake (shown_road mem.now at) labels.old keys.old }
+    ensures keys_after { waiting.new ≡ wake (shown_road mem.now at) labels.old waiting.old }
 {
     let to = wide(mem[at + RoadRecord::TO]);
-    let offer = long(labels[u]) + long(mem[at + RoadRecord::WEIGHT]);
-    if offer < long(labels[to]) {
+    let offer = u64::from(labels[u]) + u64::from(mem[at + RoadRecord::WEIGHT]);
+    if offer < u64::from(labels[to]) {
         let label = offer as u32;
         labels[to] = label;
-        wait_with(keys, tree, to, label);
+        waiting.wait_with(to, label);
     }
 }
 
@@ -40,19 +33,14 @@ pub fn relax_out(
     k: usize,
     u: usize,
     labels: &mut [u32; 4096],
-    keys: &mut [u32; 4096],
-    tree: &mut [u64; 1365],
+    waiting: &mut Waiting,
 )
     requires fan { Fan mem.now at k u }
     requires labels_len { length labels.old ≡ most_vertices }
     ensures labels_after { labels.new ≡ relax_all (shown_roads mem.now at k) labels.old }
-    ensures keys_after { keys.new ≡ wake_all (shown_roads mem.now at k) labels.old keys.old }
+    ensures keys_after { waiting.new ≡ wake_all (shown_roads mem.now at k) labels.old waiting.old }
 {
-    let mut here = at;
-    let mut left = k;
-    while 0 < left {
-        relax_road(mem, here, u, labels, keys, tree);
-        here += RoadRecord::WORDS;
-        left -= 1;
+    for i in 0..k {
+        relax_road(mem, at + RoadRecord::WORDS * i, u, labels, waiting);
     }
 }

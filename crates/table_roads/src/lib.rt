@@ -12,20 +12,17 @@ use cells::{lower, put, wide, word};
 use layout::{PartRecord, RoadRecord, RowRecord, part_word, row_word};
 use places::{counts_in, road_at};
 use road_lookup::first_road;
-use table_words::{line_of, part_of, vertex_of};
+use table_words::{PartRows, part_of, vertex_of};
 
 // The place of each row vertex of part p.
 pub fn note_rows(mem: &[u32], p: u32, place: &mut [u32])
     ensures noted { (m : Map) → LaidForTables m mem.now → p < part_count m → most_vertices ≤ length place.old → Noted m p (size_of m p) place.new }
     ensures place_len_unchanged { length place.new ≡ length place.old }
 {
-    let size = part_word(mem, p, PartRecord::SIZE);
-    let first = part_word(mem, p, PartRecord::ROWS);
-    let mut i: u32 = 0;
-    while i < size {
-        let v = vertex_of(row_word(mem, first, i, RowRecord::OWN));
+    let rows = PartRows::of(mem, p);
+    for i in 0..rows.table.nodes {
+        let v = vertex_of(row_word(mem, rows.first, i, RowRecord::OWN));
         put(place, wide(v), i);
-        i += 1;
     }
 }
 
@@ -34,10 +31,8 @@ fn mark(marks: &mut [u32], i: u32, j: u32, d: u32, e: u32)
     ensures halts_marked { HaltsMarked marks.old i j d e marks.new }
     ensures marks_len_unchanged { length marks.new ≡ length marks.old }
 {
-    if d == e {
-        if d != 0 {
-            return;
-        }
+    if d == e && d != 0 {
+        return;
     }
     put(marks, wide(i), 1);
     put(marks, wide(j), 1);
@@ -50,28 +45,27 @@ fn lower_by_road(mem: &mut [u32], place: &[u32], marks: &mut [u32], p: u32, i: u
     ensures marks_len_unchanged { length marks.new ≡ length marks.old }
 {
     let road = road_at(counts_in(mem), r);
-    let size = part_word(mem, p, PartRecord::SIZE);
-    let first = part_word(mem, p, PartRecord::ROWS);
-    let table = part_word(mem, p, PartRecord::TABLE);
+    let rows = PartRows::of(mem, p);
     let from = word(mem, road);
     let to = word(mem, road + RoadRecord::TO);
     let weight = word(mem, road + RoadRecord::WEIGHT);
     let j = word(place, wide(to));
-    let own = row_word(mem, first, i, RowRecord::OWN);
+    let own = row_word(mem, rows.first, i, RowRecord::OWN);
     if from != vertex_of(own) {
         return;
     }
-    if size <= j {
+    if rows.table.nodes <= j {
         return;
     }
-    let other = row_word(mem, first, j, RowRecord::OWN);
+    let other = row_word(mem, rows.first, j, RowRecord::OWN);
     if to != vertex_of(other) {
         return;
     }
     mark(marks, i, j, part_of(own), part_of(other));
-    lower(mem, line_of(table, size, i) + wide(j), weight);
+    lower(mem, rows.table.place(i, j), weight);
 }
 
+// All roads from the vertex of row i of part p.
 fn lower_by_roads(mem: &mut [u32], place: &[u32], marks: &mut [u32], p: u32, i: u32)
     ensures roads_of { (m : Map) → LaidForTables m mem.old → p < part_count m → i < size_of m p → Noted m p (size_of m p) place.now → most_borders ≤ length marks.old → RoadsOf m p i 0 (road_count m) mem.old mem.new marks.old marks.new }
     ensures mem_len_unchanged { length mem.new ≡ length mem.old }
@@ -80,11 +74,8 @@ fn lower_by_roads(mem: &mut [u32], place: &[u32], marks: &mut [u32], p: u32, i: 
     let first = part_word(mem, p, PartRecord::ROWS);
     let v = vertex_of(row_word(mem, first, i, RowRecord::OWN));
     let counts = counts_in(mem);
-    let mut r = first_road(mem, counts, v);
-    let end = first_road(mem, counts, v + 1);
-    while r < end {
+    for r in first_road(mem, counts, v)..first_road(mem, counts, v + 1) {
         lower_by_road(mem, place, marks, p, i, r);
-        r += 1;
     }
 }
 
@@ -94,10 +85,7 @@ pub fn take_roads(mem: &mut [u32], place: &[u32], marks: &mut [u32], p: u32)
     ensures mem_len_unchanged { length mem.new ≡ length mem.old }
     ensures marks_len_unchanged { length marks.new ≡ length marks.old }
 {
-    let size = part_word(mem, p, PartRecord::SIZE);
-    let mut i: u32 = 0;
-    while i < size {
+    for i in 0..part_word(mem, p, PartRecord::SIZE) {
         lower_by_roads(mem, place, marks, p, i);
-        i += 1;
     }
 }

@@ -15,15 +15,15 @@ use cells::{wide, word};
 use layout::{HeadRecord, PartRecord, part_word};
 use table_pairs::agree;
 use table_roads::{note_rows, take_roads};
-use table_rows::{blank_at, try_at};
-use table_words::row_below;
+use table_rows::Table;
+use table_words::{PartRows, row_below};
 
 // Row k is tried, if it is marked as a halt.
-fn try_halt(mem: &mut [u32], marks: &[u32], table: u32, size: u32, k: u32)
-    ensures { HaltTried table size k marks.now mem.old mem.new }
+fn try_halt(mem: &mut [u32], marks: &[u32], table: Table, k: u32)
+    ensures { HaltTried table.at table.nodes k marks.now mem.old mem.new }
 {
     if word(marks, wide(k)) == 1 {
-        try_at(mem, table, size, k);
+        table.try_node(mem, k);
     }
 }
 
@@ -32,12 +32,9 @@ fn close(mem: &mut [u32], marks: &[u32], p: u32)
     ensures closed { (m : Map) → LaidForTables m mem.old → p < part_count m → AtHome m p mem.old → Closed m p (size_of m p) marks.now mem.old mem.new }
     ensures mem_len_unchanged { length mem.new ≡ length mem.old }
 {
-    let size = part_word(mem, p, PartRecord::SIZE);
-    let table = part_word(mem, p, PartRecord::TABLE);
-    let mut k: u32 = 0;
-    while k < size {
-        try_halt(mem, marks, table, size, k);
-        k += 1;
+    let table = PartRows::of(mem, p).table;
+    for k in 0..table.nodes {
+        try_halt(mem, marks, table, k);
     }
 }
 
@@ -47,23 +44,21 @@ fn rise(mem: &mut [u32], place: &mut [u32], p: u32)
     ensures mem_len_unchanged { length mem.new ≡ length mem.old }
     ensures place_len_unchanged { length place.new ≡ length place.old }
 {
-    let size = part_word(mem, p, PartRecord::SIZE);
-    let table = part_word(mem, p, PartRecord::TABLE);
-    let mut marks = [0u32; 128];
-    blank_at(mem, table, size);
+    let mut marks = [0; 128];
+    PartRows::of(mem, p).table.blank(mem);
     note_rows(mem, p, place);
     take_roads(mem, place, &mut marks, p);
     agree(mem, p);
     close(mem, &marks, p);
 }
 
+// The tables of all parts, from the last to the first.
 fn rise_parts(mem: &mut [u32], place: &mut [u32])
     ensures risen { (m : Map) → LaidForTables m mem.old → most_vertices ≤ length place.old → Risen m 0 mem.old mem.new }
     ensures mem_len_unchanged { length mem.new ≡ length mem.old }
 {
-    let mut p = word(mem, HeadRecord::PARTS);
-    while 0 < p {
-        p -= 1;
+    let count = word(mem, HeadRecord::PARTS);
+    for p in (0..count).rev() {
         rise(mem, place, p);
     }
 }
@@ -74,23 +69,18 @@ fn enter_row(mem: &mut [u32], p: u32, i: u32)
     ensures mem_len_unchanged { length mem.new ≡ length mem.old }
 {
     let first = part_word(mem, p, PartRecord::ROWS);
-    let b = row_below(mem, first, i);
-    let c = b.part;
-    if c == 0 {
-        return;
+    if let Some(below) = row_below(mem, first, i) {
+        below.rows.table.try_node(mem, below.row);
     }
-    try_at(mem, b.table, b.size, b.row);
 }
 
+// So are those of all its rows.
 fn enter_rows(mem: &mut [u32], p: u32)
     ensures entered { (m : Map) → LaidForTables m mem.old → p < part_count m → Inside m 0 mem.old → Entered m p (size_of m p) mem.old mem.new }
     ensures mem_len_unchanged { length mem.new ≡ length mem.old }
 {
-    let size = part_word(mem, p, PartRecord::SIZE);
-    let mut i: u32 = 0;
-    while i < size {
+    for i in 0..part_word(mem, p, PartRecord::SIZE) {
         enter_row(mem, p, i);
-        i += 1;
     }
 }
 
@@ -103,15 +93,14 @@ fn descend(mem: &mut [u32], p: u32)
     enter_rows(mem, p);
 }
 
+// The tables of all parts, from the first to the last.
 fn descend_parts(mem: &mut [u32])
     ensures descended { (m : Map) (start : List ℕ) → LaidForTables m start → Descended m 0 start mem.old → Descended m (part_count m) start mem.new }
     ensures mem_len_unchanged { length mem.new ≡ length mem.old }
 {
     let count = word(mem, HeadRecord::PARTS);
-    let mut p: u32 = 0;
-    while p < count {
+    for p in 0..count {
         descend(mem, p);
-        p += 1;
     }
 }
 
@@ -120,7 +109,7 @@ pub fn fill_tables(mem: &mut [u32])
     ensures filled { (m : Map) → LaidForTables m mem.old → Filled m mem.old mem.new }
     ensures mem_len_unchanged { length mem.new ≡ length mem.old }
 {
-    let mut place = [0u32; 4096];
+    let mut place = [0; 4096];
     rise_parts(mem, &mut place);
     descend_parts(mem);
 }

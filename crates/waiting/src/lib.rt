@@ -2,32 +2,25 @@
 // its nodes, with its vertex, four to a node, and no proof rests on what it holds.
 #![tactic(auto)]
 
-ghost use Rattle.std.specs.Prelude.{◌≡◌, ◌+◌, ◌*◌, ◌/◌, ◌≤◌, ◌<◌, set};
-ghost use Rattle.words.specs.Limits.{FAR};
+ghost use Rattle.std.specs.Prelude.{◌≡◌, ◌+◌, ◌*◌, ◌/◌, ◌≤◌, ◌<◌, set, replicate};
+ghost use Rattle.words.specs.Limits.{FAR, most_vertices};
 ghost use Rattle.words.specs.Lists.{word};
 ghost use Rattle.waiting.specs.Waiting.{Picked};
 
-use cells::lesser_wide;
+use std::marker::Model;
 
 // No path, as a label; and no vertex that waits, as a key.
-pub const FAR: u32 = 4294967295;
+pub const FAR: u32 = u32::MAX;
 
 // The key FAR with vertex 0.
-pub const NO_KEY: u64 = 281474976645120;
-
-// A word as a number of 64 bits.
-pub fn long(x: u32) -> u64
-    ensures { (result ≡ x) × (result < 4294967296) }
-{
-    x as u64
-}
+const NO_KEY: u64 = FAR as u64 * 65536;
 
 // A key with its vertex: the lesser of two has the lesser key.
 fn keyed(key: u32, v: usize) -> u64
     requires { v < 4096 }
     ensures { result ≡ key * 65536 + v }
 {
-    long(key) * 65536 + v as u64
+    u64::from(key) * 65536 + v as u64
 }
 
 // The least of four keys, with its vertex: what a node at the bottom of the tree shows.
@@ -35,17 +28,16 @@ fn least_key(keys: &[u32; 4096], v: usize) -> u64
     requires { v + 4 ≤ 4096 }
     ensures { result ≤ word keys.now v * 65536 + v }
 {
-    lesser_wide(
-        lesser_wide(keyed(keys[v], v), keyed(keys[v + 1], v + 1)),
-        lesser_wide(keyed(keys[v + 2], v + 2), keyed(keys[v + 3], v + 3)),
-    )
+    let first = keyed(keys[v], v).min(keyed(keys[v + 1], v + 1));
+    let second = keyed(keys[v + 2], v + 2).min(keyed(keys[v + 3], v + 3));
+    first.min(second)
 }
 
 // A node above a key that fell.
 fn lower_node(tree: &mut [u64; 1365], node: usize, new: u64)
     requires { node < 1365 }
 {
-    tree[node] = lesser_wide(new, tree[node]);
+    tree[node] = new.min(tree[node]);
 }
 
 // The key of `v` fell to `key`: the nodes above it, from the bottom up.
@@ -69,10 +61,8 @@ fn raise_node(tree: &mut [u64; 1365], level: usize, i: usize, x: u64) -> u64
     let group = level + i / 4 * 4;
     let at = i % 4;
     tree[group + at] = x;
-    lesser_wide(
-        lesser_wide(tree[group + (at + 1) % 4], tree[group + (at + 2) % 4]),
-        lesser_wide(tree[group + (at + 3) % 4], x),
-    )
+    let next = tree[group + (at + 1) % 4].min(tree[group + (at + 2) % 4]);
+    next.min(tree[group + (at + 3) % 4].min(x))
 }
 
 // `v` has ceased to wait: the nodes above it, from the bottom up.
@@ -87,49 +77,59 @@ fn raise(keys: &[u32; 4096], tree: &mut [u64; 1365], v: usize)
     tree[0] = raise_node(tree, 1, v / 1024, x);
 }
 
-// `v` waits from now on, with this key.
-pub fn wait_with(keys: &mut [u32; 4096], tree: &mut [u64; 1365], v: usize, key: u32)
-    requires { v < 4096 }
-    ensures { keys.new ≡ set keys.old v key }
-{
-    keys[v] = key;
-    lower(tree, v, key);
+// Which vertices wait: the key of each.
+#[derive(Drop)]
+pub struct Waiting {
+    keys: [u32; 4096],
+    tree: [u64; 1365],
 }
 
-// `v` is taken, and ceases to wait.
-pub fn take(keys: &mut [u32; 4096], tree: &mut [u64; 1365], v: usize)
-    requires { v < 4096 }
-    ensures { keys.new ≡ set keys.old v FAR }
-{
-    keys[v] = FAR;
-    raise(keys, tree, v);
+impl Model for Waiting {
+    ghost use Rattle.std.specs.Prelude.{List, ℕ};
+
+    ghost Value = { List ℕ };
+
+    ghost view = { λ w. w.keys };
 }
 
-// The first vertex below `n` that waits, or `n`.
-fn first_waiting(keys: &[u32; 4096], n: usize) -> usize
-    requires { n ≤ 4096 }
-    ensures { Picked keys.now n result }
-{
-    let mut v = 0;
-    while v < n {
-        if keys[v] != FAR {
-            return v;
-        }
-        v += 1;
-    }
-    n
-}
-
-// A vertex below `n` that waits, or `n`. The guess of the tree serves wherever it waits.
-pub fn pick(keys: &[u32; 4096], tree: &[u64; 1365], n: usize) -> usize
-    requires { n ≤ 4096 }
-    ensures { Picked keys.now n result }
-{
-    let guess = (tree[0] % 65536) as usize;
-    if guess < n {
-        if keys[guess] != FAR {
-            return guess;
+impl Waiting {
+    // None waits.
+    pub fn none() -> Waiting
+        ensures { result ≡ replicate most_vertices FAR }
+    {
+        Waiting {
+            keys: [FAR; 4096],
+            tree: [NO_KEY; 1365],
         }
     }
-    first_waiting(keys, n)
+
+    // `v` waits from now on, with this key.
+    pub fn wait_with(&mut self, v: usize, key: u32)
+        requires { v < 4096 }
+        ensures { self.new ≡ set self.old v key }
+    {
+        self.keys[v] = key;
+        lower(&mut self.tree, v, key);
+    }
+
+    // `v` is taken, and ceases to wait.
+    pub fn take(&mut self, v: usize)
+        requires { v < 4096 }
+        ensures { self.new ≡ set self.old v FAR }
+    {
+        self.keys[v] = FAR;
+        raise(&self.keys, &mut self.tree, v);
+    }
+
+    // A vertex below `n` that waits, if one does. The guess of the tree serves wherever it waits.
+    pub fn pick(&self, n: usize) -> Option<usize>
+        requires { n ≤ 4096 }
+        ensures { Picked self.now n result }
+    {
+        let guess = (self.tree[0] % 65536) as usize;
+        if guess < n && self.keys[guess] != FAR {
+            return Some(guess);
+        }
+        self.keys[..n].iter().position(|key| *key != FAR)
+    }
 }

@@ -1,23 +1,26 @@
 -- `road_relax::relax_out` meets its contract. The loop's invariant: the roads that are left give what all were to give. Assumes nothing.
-use Rattle.road_relax.proofs.Relaxed.{Left, left_first, left_step, left_none}
+use Rattle.road_relax.proofs.Relaxed.{left_here, left_next, left_none}
 use borrow.Author.Rules.{rules}
+use Prim.Native.Nat.{◌-◌, ◌≤◌}
 use native.Mathlib.Omega.{arith}
 use Rattle.road_relax.proofs.relax_out.Goals as goal
 
-pub loop-left-preserved : goal.loop-left-preserved
-loop-left-preserved c =
+pub relax_road-requires-clause-leaves : goal.relax_road-requires-clause-leaves
+relax_road-requires-clause-leaves c = left_here _ (search rules) c.loop-i.invariant
+
+pub overflow_mul-i : goal.overflow_mul-i
+overflow_mul-i c = omega (arith, (left_here _ (search rules) c.loop-i.invariant).fits)
+
+pub overflow_add-at : goal.overflow_add-at
+overflow_add-at c = omega (arith, (left_here _ (search rules) c.loop-i.invariant).fits)
+
+pub loop-i-preserved : goal.loop-i-preserved
+loop-i-preserved c =
     rw (c.relax_road.ensures.labels_after, c.relax_road.ensures.keys_after)
-    (left_step (search rules) c.loop-left.invariant)
+    (left_next _ (search rules) c.loop-i.invariant)
 
 pub returns : goal.returns
 returns c =
-    let both = left_none (search rules) c.loop-left.invariant in
+    let none : c.args.k - c.loop-i.i ≤ 0 = omega arith in
+    let both = left_none none c.loop-i.invariant in
     record { labels_after = both.0; keys_after = both.1 }
-
-pub relax_road-requires : goal.relax_road-requires
-relax_road-requires c =
-    let now = c.loop-left.invariant in
-    record { leaves = left_first (search rules) now; labels_len = now.sized }
-
-pub overflow_add-here : goal.overflow_add-here
-overflow_add-here c = omega (arith, (left_first (search rules) c.loop-left.invariant).fits)

@@ -4,9 +4,9 @@ use borrow.Author.Rules.{rules}
 use mathlib.Core.Path.{◌∙◌}
 use Rattle.road_relax.proofs.relax_road.Goals as goal
 
-pub returns-then-offer-long : goal.returns-then-offer-long
-returns-then-offer-long c =
-    let seen : Seen c.args.mem.now c.args.labels.now c.args.at c.args.u c.wide-to.result c.long.result c.long-2.result c.long-3.result =
+pub returns-then-offer-from : goal.returns-then-offer-from
+returns-then-offer-from c =
+    let seen : Seen c.args.mem.now c.args.labels.now c.args.at c.args.u c.wide-to.result c.from.result c.from-2.result c.from-3.result =
     record {
       leaves = search rules;
       sized = search rules;
@@ -15,12 +15,12 @@ returns-then-offer-long c =
       weight_is = search rules;
       far_is = search rules;
     } in
-    let both = stored _ _ c.args.keys.now _ _ _ _ _ _ seen (search rules) in
+    let both = stored _ _ c.args.waiting.now _ _ _ _ _ _ seen (search rules) in
     record { labels_after = both.0; keys_after = c.wait_with.ensures ∙ both.1 }
 
-pub returns-else-offer-long : goal.returns-else-offer-long
-returns-else-offer-long c =
-    let seen : Seen c.args.mem.now c.args.labels.now c.args.at c.args.u c.wide-to.result c.long.result c.long-2.result c.long-3.result =
+pub returns-else-offer-from : goal.returns-else-offer-from
+returns-else-offer-from c =
+    let seen : Seen c.args.mem.now c.args.labels.now c.args.at c.args.u c.wide-to.result c.from.result c.from-2.result c.from-3.result =
     record {
       leaves = search rules;
       sized = search rules;
@@ -29,5 +29,5 @@ returns-else-offer-long c =
       weight_is = search rules;
       far_is = search rules;
     } in
-    let both = passed _ _ c.args.keys.now _ _ _ _ _ _ seen (search rules) in
+    let both = passed _ _ c.args.waiting.now _ _ _ _ _ _ seen (search rules) in
     record { labels_after = both.0; keys_after = both.1 }

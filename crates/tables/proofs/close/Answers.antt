@@ -6,8 +6,8 @@ use Rattle.assembly.proofs.Rising.{closed_turn, closed_done}
 use Rattle.tables.proofs.close.Goals as goal
 
 pub loop-k-preserved : goal.loop-k-preserved
-loop-k-preserved c = (search rules, c.try_halt.ensures.sized ∙ c.loop-k.invariant.1, closed_turn _ _ _ _ _ _ (search rules) c.part_word-size.ensures c.part_word-table.ensures c.loop-k.invariant.2 c.try_halt.ensures)
+loop-k-preserved c = (c.try_halt.ensures.sized ∙ c.loop-k.invariant.0, closed_turn _ _ _ _ _ _ (search rules) c.of.ensures.nodes c.of.ensures.table c.loop-k.invariant.1 c.try_halt.ensures)
 
 pub returns : goal.returns
 returns c =
-    record { closed = closed_done _ _ _ _ _ c.loop-k.invariant.0 (search rules) c.part_word-size.ensures c.loop-k.invariant.2; mem_len_unchanged = c.loop-k.invariant.1 }
+    record { closed = closed_done _ _ _ _ _ (search rules) (search rules) c.of.ensures.nodes c.loop-k.invariant.1; mem_len_unchanged = c.loop-k.invariant.0 }

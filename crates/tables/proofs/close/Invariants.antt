@@ -1,11 +1,7 @@
 use mathlib.Core.Path.{◌≡◌}
-use Prim.Native.Nat.{◌≤◌, ◌-◌}
 use lib.ListN.{length}
 use Rattle.assembly.proofs.Rising.{ClosedTo}
 use Rattle.tables.proofs.close.Given as goal
 
 abbrev pub invariant-loop-k : goal.invariant-loop-k
-invariant-loop-k l = (l.k ≤ l.size) × (length l.mem ≡ length l.initial.mem) × ClosedTo l.initial.mem l.marks l.p l.k l.mem
-
-abbrev pub decreases-loop-k : goal.decreases-loop-k
-decreases-loop-k l = l.size - l.k
+invariant-loop-k l = (length l.mem ≡ length l.initial.mem) × ClosedTo l.initial.mem l.marks l.p l.k l.mem

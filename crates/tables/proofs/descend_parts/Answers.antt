@@ -6,4 +6,4 @@ use Rattle.tables.proofs.descend_parts.Goals as goal
 
 pub returns : goal.returns
 returns c =
-    record { descended = descended_done _ _ _ c.loop-p.invariant.0 (search rules) c.word-count.ensures c.loop-p.invariant.2; mem_len_unchanged = c.loop-p.invariant.1 }
+    record { descended = descended_done _ _ _ (search rules) (search rules) c.word-count.ensures c.loop-p.invariant.1; mem_len_unchanged = c.loop-p.invariant.0 }

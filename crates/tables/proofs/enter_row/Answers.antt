@@ -1,10 +1,10 @@
 -- `tables::enter_row` meets its contract.
 -- Assumes nothing.
 use Rattle.assembly.proofs.Descent.{row_entered}
+use Rattle.table_words.specs.Rows.{StandsBelow}
 use Rattle.tables.proofs.enter_row.Goals as goal
 
-pub returns : goal.returns
-returns c = record {
-  entered_row = λ m L hp hi I. row_entered (c.row_below-b.ensures m _ L hp hi c.part_word-first.ensures) c.if-c-eq0.false c.try_at.ensures L hi I;
-  mem_len_unchanged = c.try_at.ensures.sized;
-}
+pub returns-in-Some-clause-entered_row : goal.returns-in-Some-clause-entered_row
+returns-in-Some-clause-entered_row c = λ m L hp hi I.
+    let stands : StandsBelow m c.args.p c.args.i c.in-Some.below = c.in-Some.ensures m _ L hp hi c.part_word-first.ensures in
+    row_entered stands.row_in (rw (stands.rows.table, stands.rows.nodes, stands.row) at c.try_node.ensures) L hi I

@@ -8,8 +8,7 @@ use Rattle.tables.proofs.rise_parts.Goals as goal
 
 pub loop-p-preserved : goal.loop-p-preserved
 loop-p-preserved c = (
-  search rules,
-  c.rise.ensures.mem_len_unchanged ∙ c.loop-p.invariant.1,
-  c.rise.ensures.place_len_unchanged ∙ c.loop-p.invariant.2,
-  risen_turn _ _ _ _ _ c.loop-p.invariant.0 c.word-p.ensures (omega arith) c.loop-p.invariant.3 (λ m L hp few I. c.rise.ensures.risen m L hp (omega (arith, few, c.loop-p.invariant.2)) I),
+  c.rise.ensures.mem_len_unchanged ∙ c.loop-p.invariant.0,
+  c.rise.ensures.place_len_unchanged ∙ c.loop-p.invariant.1,
+  risen_turn _ _ _ _ _ (search rules) c.word-count.ensures (omega arith) c.loop-p.invariant.2 (λ m L hp few I. c.rise.ensures.risen m L hp (omega (arith, few, c.loop-p.invariant.1)) I),
 )
