@@ -11,6 +11,7 @@ ghost use Rattle.opening_parts.specs.Parts.{Sized, PartsReady, PartsStand};
 
 use cells::{put, word};
 use layout::{HeadRecord, PartRecord, RowRecord};
+use map_parts::ShownMap;
 use records::put_words;
 
 // Where so many rows begin that end at `end`.
@@ -48,10 +49,11 @@ fn adopt(children: &mut [u32], parent: u32, p: u32) -> u32
     sibling
 }
 
-// The parts of the map that is shown. Its rows end at the memory's last word in use, and its tables end where its rows begin.
-pub fn write_parts(parents: &[u32], sizes: &[u32], parts: u32, used: u32, mem: &mut [u32])
-    ensures { (m : Map) → PartsReady m parents.now sizes.now parts used mem.old → PartsStand m 0 mem.old mem.new }
+// The parts of the map, with so many rows each. Its rows end at the memory's last word in use, and its tables end where its rows begin.
+pub fn write_parts(shown: &ShownMap, sizes: &[u32], used: u32, mem: &mut [u32])
+    ensures { (m : Map) → PartsReady m shown.now.parents sizes.now shown.now.counts.parts used mem.old → PartsStand m 0 mem.old mem.new }
 {
+    let parts = shown.counts.parts;
     let mut children: [u32; 512] = [0; 512];
     let mut table = rows_begin(sizes, parts, used);
     let mut row = used;
@@ -59,7 +61,7 @@ pub fn write_parts(parents: &[u32], sizes: &[u32], parts: u32, used: u32, mem: &
         let size = word(sizes, p as usize);
         table = table_start(table, size);
         row = row_start(row, size);
-        let parent = word(parents, p as usize);
+        let parent = shown.parent(p);
         let child = word(&children, p as usize);
         let sibling = adopt(&mut children, parent, p);
         let at = HeadRecord::WORDS + PartRecord::WORDS * p as usize;

@@ -11,6 +11,7 @@ ghost use Rattle.opening_rows.specs.Rows.{RowWritten, Standing, RowsReady, RowsS
 use cells::{put, word};
 use counts::Counts;
 use layout::{PartRecord, RowRecord, VertexRecord, part_word};
+use map_parts::ShownMap;
 use places::vertex_at;
 use records::put_words;
 use rows::Row;
@@ -47,8 +48,8 @@ struct Vertex {
 }
 
 // The rows of a vertex, from its leaf upward.
-fn climb(parents: &[u32], vertex: Vertex, cursors: &mut [u32], mem: &mut [u32])
-    ensures { (m : Map) (start : List ℕ) → Standing m parents.now vertex → RowsStand m vertex.number (λ q. true) start cursors.old mem.old → RowsStand m (suc vertex.number) (λ q. true) start cursors.new mem.new }
+fn climb(shown: &ShownMap, vertex: Vertex, cursors: &mut [u32], mem: &mut [u32])
+    ensures { (m : Map) (start : List ℕ) → Standing m shown.now.parents vertex → RowsStand m vertex.number (λ q. true) start cursors.old mem.old → RowsStand m (suc vertex.number) (λ q. true) start cursors.new mem.new }
 {
     let mut part = vertex.leaf;
     let mut child = 0;
@@ -60,7 +61,7 @@ fn climb(parents: &[u32], vertex: Vertex, cursors: &mut [u32], mem: &mut [u32])
         }
         child = part;
         below = at;
-        part = word(parents, part as usize);
+        part = shown.parent(part);
     }
 }
 
@@ -79,19 +80,18 @@ fn first_rows(mem: &[u32], parts: u32) -> [u32; 512]
     cursors
 }
 
-// The rows of the map that is shown, whose parts' records stand.
-pub fn write_rows(parents: &[u32], leaves: &[u32], lifts: &[u32], counts: Counts, mem: &mut [u32])
-    requires { (counts.vertices ≤ most_vertices) × (vertices_from counts.parts ≤ 65536) }
-    ensures { (m : Map) → RowsReady m parents.now leaves.now lifts.now counts mem.old → RowsDone m mem.old mem.new }
+// The rows of the map, with these lifts of its vertices, whose parts' records stand.
+pub fn write_rows(shown: &ShownMap, lifts: &[u32], mem: &mut [u32])
+    ensures { (m : Map) → RowsReady m shown.now.parents shown.now.leaves lifts.now shown.now.counts mem.old → RowsDone m mem.old mem.new }
 {
-    let mut cursors = first_rows(mem, counts.parts);
-    for v in 0..counts.vertices {
+    let mut cursors = first_rows(mem, shown.counts.parts);
+    for v in 0..shown.counts.vertices {
         let vertex = Vertex {
             number: v,
-            leaf: word(leaves, v as usize),
+            leaf: shown.leaf(v),
             lift: word(lifts, v as usize),
-            itself: (vertex_at(counts, v) + VertexRecord::ITSELF) as u32,
+            itself: (vertex_at(shown.counts, v) + VertexRecord::ITSELF) as u32,
         };
-        climb(parents, vertex, &mut cursors, mem);
+        climb(shown, vertex, &mut cursors, mem);
     }
 }

@@ -9,7 +9,7 @@ use Rattle.opening_rows.proofs.write_rows.Goals as goal
 pub loop-v-init : goal.loop-v-init
 loop-v-init c =
     let args = c.args in
-    λ m ready. rows_none m args.parents.now args.leaves.now args.lifts.now args.counts args.mem.now ready _ c.first_rows-cursors.ensures
+    λ m ready. rows_none m args.shown.now.parents args.shown.now.leaves args.lifts.now args.shown.now.counts args.mem.now ready _ c.first_rows-cursors.ensures
 
 pub loop-v-preserved : goal.loop-v-preserved
 loop-v-preserved c =
@@ -17,7 +17,7 @@ loop-v-preserved c =
     let loop = c.loop-v in
     λ m ready.
     next_vertex m loop.v args.mem.now _ _
-    (c.climb.ensures m args.mem.now (standing m args.parents.now args.leaves.now args.lifts.now args.counts args.mem.now ready _ c.loop-v-test.true c.word.ensures c.word-in-loop-v.ensures
+    (c.climb.ensures m args.mem.now (standing m args.shown.now.parents args.shown.now.leaves args.lifts.now args.shown.now.counts args.mem.now ready _ c.loop-v-test.true c.leaf.ensures c.word.ensures
     (ap (λ (k : ℕ). k + itself_in_vertex) c.vertex_at.ensures)) (loop.invariant m ready))
 
 pub returns : goal.returns
