@@ -10,7 +10,7 @@ ghost use Rattle.maps.specs.Bytes.{road_shown};
 ghost use Rattle.opening_roads.specs.Roads.{road_words, RoadsReady, RoadsStand};
 
 use cells::{put, word};
-use counts::Counts;
+use map_parts::ShownMap;
 use map_roads::Road;
 use places::road_at;
 use records::put_words;
@@ -26,11 +26,11 @@ fn write_road(body: &[u8], i: u32, at: usize, ins: &mut [u32], mem: &mut [u32])
     put(ins, end, i + 1);
 }
 
-// The roads that the body shows; `ins`, all 0 before, has a word for each vertex.
-pub fn write_roads(body: &[u8], counts: Counts, ins: &mut [u32], mem: &mut [u32])
-    ensures { (m : Map) → RoadsReady m body.now counts ins.old mem.old → RoadsStand m 0 mem.old ins.new mem.new }
+// The roads of the map; `ins`, all 0 before, has a word for each vertex.
+pub fn write_roads(shown: &ShownMap, ins: &mut [u32], mem: &mut [u32])
+    ensures { (m : Map) → RoadsReady m shown.now.body.now shown.now.counts ins.old mem.old → RoadsStand m 0 mem.old ins.new mem.new }
 {
-    for i in (0..counts.roads).rev() {
-        write_road(body, i, road_at(counts, i), ins, mem);
+    for i in (0..shown.counts.roads).rev() {
+        write_road(shown.body, i, road_at(shown.counts, i), ins, mem);
     }
 }

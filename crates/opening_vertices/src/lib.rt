@@ -8,7 +8,7 @@ ghost use Rattle.roads.specs.Map.{Map};
 ghost use Rattle.opening_vertices.specs.Vertices.{Skipped, VerticesReady, VerticesStand};
 
 use cells::{put, word};
-use counts::Counts;
+use map_parts::ShownMap;
 use map_roads::Road;
 use places::vertex_at;
 use records::put_words;
@@ -37,18 +37,18 @@ fn next_place(places: &mut [u32], leaf: u32) -> u32
     place
 }
 
-// The vertices of the map that is shown, without vans; `ins` has the link from each to the first road into it.
-pub fn write_vertices(leaves: &[u32], body: &[u8], counts: Counts, ins: &[u32], mem: &mut [u32])
-    ensures { (m : Map) → VerticesReady m leaves.now body.now counts ins.now mem.old → VerticesStand m m.vertices mem.old mem.new }
+// The vertices of the map, without vans; `ins` has the link from each to the first road into it.
+pub fn write_vertices(shown: &ShownMap, ins: &[u32], mem: &mut [u32])
+    ensures { (m : Map) → VerticesReady m shown.now.leaves shown.now.body.now shown.now.counts ins.now mem.old → VerticesStand m m.vertices mem.old mem.new }
 {
     let mut places: [u32; 512] = [0; 512];
     let mut road = 0;
-    for v in 0..counts.vertices {
-        road = skip(body, counts.roads, road, v);
-        let leaf = word(leaves, v as usize);
+    for v in 0..shown.counts.vertices {
+        road = skip(shown.body, shown.counts.roads, road, v);
+        let leaf = shown.leaf(v);
         let place = next_place(&mut places, leaf);
         let link = word(ins, v as usize);
-        let at = vertex_at(counts, v);
+        let at = vertex_at(shown.counts, v);
         put_words(
             mem,
             at,

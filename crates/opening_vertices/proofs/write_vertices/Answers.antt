@@ -12,7 +12,7 @@ use Rattle.opening_vertices.proofs.write_vertices.Goals as goal
 pub loop-v-init : goal.loop-v-init
 loop-v-init c =
     let args = c.args in
-    (omega arith, refl, λ m ready. (taken_none m args.leaves.now args.body.now args.counts args.ins.now args.mem.now ready, written_none (vertices_at m) words_in_vertex (fresh_vertex m) 0 args.mem.now))
+    (omega arith, refl, λ m ready. (taken_none m args.shown.now.leaves args.shown.now.body.now args.shown.now.counts args.ins.now args.mem.now ready, written_none (vertices_at m) words_in_vertex (fresh_vertex m) 0 args.mem.now))
 
 pub loop-v-preserved : goal.loop-v-preserved
 loop-v-preserved c =
@@ -24,8 +24,8 @@ loop-v-preserved c =
       taken.auto.places ∙ loop.invariant.1,
       λ m ready.
           let old = loop.invariant.2 m ready in
-          vertex_more m args.leaves.now args.body.now args.counts args.ins.now args.mem.now ready loop.v loop.road _ _ _ _ _ loop.places _ loop.mem _ c.loop-v-test.true loop.invariant.1 old.0 skip.ensures
-          c.word-leaf.ensures taken.ensures.0 taken.ensures.1 c.word-link.ensures c.vertex_at-at.ensures c.put_words.ensures old.1,
+          vertex_more m args.shown.now.leaves args.shown.now.body.now args.shown.now.counts args.ins.now args.mem.now ready loop.v loop.road _ _ _ _ _ loop.places _ loop.mem _ c.loop-v-test.true loop.invariant.1 old.0 skip.ensures
+          c.leaf-leaf.ensures taken.ensures.0 taken.ensures.1 c.word-link.ensures c.vertex_at-at.ensures c.put_words.ensures old.1,
     )
 
 pub returns : goal.returns

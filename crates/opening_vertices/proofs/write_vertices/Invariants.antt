@@ -6,6 +6,6 @@ use Rattle.opening_vertices.proofs.Step.{Taken}
 use Rattle.opening_vertices.proofs.write_vertices.Given as goal
 
 abbrev pub invariant-loop-v : goal.invariant-loop-v
-invariant-loop-v l = (l.road ≤ l.counts.roads)
+invariant-loop-v l = (l.road ≤ l.shown.counts.roads)
     × (length l.places ≡ most_parts)
-    × ((m : Map) → VerticesReady m l.leaves l.body l.counts l.ins l.initial.mem → Taken m l.v l.places l.road × VerticesStand m l.v l.initial.mem l.mem)
+    × ((m : Map) → VerticesReady m l.shown.leaves l.shown.body.now l.shown.counts l.ins l.initial.mem → Taken m l.v l.places l.road × VerticesStand m l.v l.initial.mem l.mem)
