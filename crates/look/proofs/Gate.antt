@@ -12,6 +12,7 @@ use Rattle.roads.specs.Map.{Map}
 use Rattle.fleet.specs.State.{State}
 use Rattle.fleet.specs.Change.{number_of, is_road}
 use Rattle.fleet.specs.Look.{FindRoad, look_refusal, look_value, look}
+use Rattle.image.specs.Image.{image}
 use Rattle.calls.specs.Head.{Shows}
 use Rattle.calls.specs.Outcome.{LookedUp}
 use Rattle.calls.proofs.Head.{shown_opened}
@@ -21,15 +22,11 @@ use Rattle.places.specs.Place.{counts_in}
 use Rattle.answers.specs.declared.Refusal.{Refusal}
 use Rattle.answers.specs.Answered.{answered}
 use Rattle.road_lookup.specs.Lookup.{RoadsKnown}
-use Rattle.road_lookup.specs.Answer.{lookup_of, MissingRoad, LookupTells as InWords}
-use Rattle.road_lookup.proofs.Shown.{counts_of, counts_read, image_roads}
+use Rattle.road_lookup.specs.Answer.{lookup_of, MissingRoad}
+use Rattle.road_lookup.proofs.Shown.{counts_read, image_roads}
+use Rattle.look.specs.Looked.{reply_for, LookedIn}
 use Rattle.head.specs.Used.{used_words}
 use Rattle.head.proofs.Used.{Used, used_there, unused, used_shown}
-
--- the reply for what a lookup comes to
-abbrev pub reply_for : Result ℕ Refusal → Result ℕ Refusal
-reply_for (Ok road) = Ok 0
-reply_for (Err refusal) = Err refusal
 
 later : (lookup : Result ℕ Refusal) → IfErr lookup MissingRoad → (number_of (answered (reply_for lookup)) ≢ 6) × (number_of (answered (reply_for lookup)) ≢ 7)
 later (Ok road) missing = (λ e. omega arith, λ e. omega arith)
@@ -54,19 +51,18 @@ module _ (mem : List ℕ) (from to : ℕ) where
       let not_opened = unused mem refusal e in
       rw (not_opened.1) (record { screened = screened_unopened not_opened.0; genuine = λ m s shows. absurd (clash (shown_opened shows) not_opened.0) })
 
-  pub looked_inside : (used : ℕ) (counts : Counts) (lookup : Result ℕ Refusal) → Ok used ≡ used_words mem → counts ≡ counts_in (take used mem)
-      → InWords (take used mem) counts from to lookup → IfErr lookup MissingRoad → LookedUp mem from to (answered (reply_for lookup))
-  looked_inside used counts lookup isUsed isCounts right missing =
-      record {
-        screened = screened_neither inside.there refl (later lookup missing);
-        genuine = λ m s shows. ap (λ (l : Result ℕ Refusal). answered (reply_for l)) (right m shows.sound (stand m s shows)) ∙ look_is m s from to;
-      }
+  pub looked_inside : (used : ℕ) (reply : Result ℕ Refusal) → Ok used ≡ used_words mem → LookedIn (take used mem) from to reply → LookedUp mem from to (answered reply)
+  looked_inside used reply isUsed looked =
+      rw looked.is
+      (record {
+        screened = screened_neither inside.there refl (later looked.road looked.missing);
+        genuine = λ m s shows. ap (λ (l : Result ℕ Refusal). answered (reply_for l)) (looked.found m shows.sound (stand m s shows)) ∙ look_is m s from to;
+      })
     where
       inside : Used mem used
       inside = used_there mem used isUsed
 
-      stand : (m : Map) (s : State) → Shows m s mem → RoadsKnown m counts (take used mem)
+      stand : (m : Map) (s : State) → Shows m s mem → RoadsKnown m (counts_in (take used mem)) (take used mem)
       stand m s shows =
-          let words = used_shown mem used m s inside shows in
-          subst⁻¹ (λ (c : Counts). RoadsKnown m c (take used mem)) (isCounts ∙ ap counts_in words ∙ counts_read m s shows.good.slots)
-          (subst⁻¹ (RoadsKnown m (counts_of m)) words (image_roads m s shows.good.slots))
+          subst⁻¹ (λ (words : List ℕ). RoadsKnown m (counts_in words) words) (used_shown mem used m s inside shows)
+          (subst⁻¹ (λ (counts : Counts). RoadsKnown m counts (image m s)) (counts_read m s shows.good.slots) (image_roads m s shows.good.slots))

@@ -1,6 +1,5 @@
 -- `look::road` has the outcome of a lookup: unopened, or what the words used say.
 -- Assumes nothing.
-use Rattle.std.specs.Prelude.{Ok, Err}
 use Rattle.std.proofs.lemmas.Result.{err_from_is_err_and}
 use Rattle.look.proofs.Gate.{looked_unopened, looked_inside}
 use Rattle.look.proofs.road.Goals as goal
@@ -10,10 +9,5 @@ returns-in_err-used c =
     let p = err_from_is_err_and c.from_residual.result c.from_residual.ensures.1 in
     rw (p.1, p.2) (looked_unopened _ _ _ _ c.in_err-used.ensures.used)
 
-pub returns-in_err-look_up : goal.returns-in_err-look_up
-returns-in_err-look_up c =
-    let p = err_from_is_err_and c.from_residual-in_err-look_up.result c.from_residual-in_err-look_up.ensures.1 in
-    rw (p.1, p.2) (looked_inside _ _ _ _ _ (Err c.in_err-look_up.field-0.0) c.in_ok-used.ensures.used c.counts_in-counts.ensures c.in_err-look_up.ensures.tells c.in_err-look_up.ensures.refusals)
-
 pub returns : goal.returns
-returns c = looked_inside _ _ _ _ _ (Ok c.in_ok-look_up.field-0) c.in_ok-used.ensures.used c.counts_in-counts.ensures c.in_ok-look_up.ensures.tells c.in_ok-look_up.ensures.refusals
+returns c = looked_inside _ _ _ _ c.road_in.result c.in_ok-used.ensures.used c.road_in.ensures
