@@ -1,6 +1,6 @@
 -- A loop over the known rows and their distances, side by side.
 -- Assumes nothing.
-use mathlib.Core.Path.{◌≡◌, ◌∙◌}
+use mathlib.Core.Path.{◌≡◌, ap, ◌∙◌}
 use mathlib.Core.List.{List}
 use Prim.Native.Nat.{ℕ, ◌<◌}
 use native.Mathlib.Omega.{arith}
@@ -32,3 +32,8 @@ module _ (places near : List ℕ) (known : ℕ) (xs : List (Bor ℕ × Bor ℕ))
   -- there is no other
   pub pair_end : length (take known places) ≡ known → length (take known near) ≡ known → r ≡ None → zips fronts fronts t r u → length xs ≡ known
   pair_end long long' e h = omega (arith, zip_end (take known places) (take known near) xs s t u r first second y e h, long, long')
+
+-- the next of the rows that are asked for
+pub asked_turn : (asked : List ℕ) (count : ℕ) {items : List ℕ} {t row : ℕ} → items ≡ take count asked → t < count → row ≡ word items t → row ≡ word asked t
+asked_turn asked count {t = t} cut h is_row =
+    is_row ∙ ap (λ (l : List ℕ). word l t) cut ∙ get_or-take count asked t 0 h
