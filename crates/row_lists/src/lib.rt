@@ -10,19 +10,11 @@ ghost use Rattle.row_lists.specs.Rows.{shows_own, Picks, RowsLooked};
 
 use cells::{more, wide, word};
 use far_sums::FAR;
-use layout::RowRecord;
+use layout::{RowRecord, row_word};
 pub use lists::RowLists;
 use part_words::PartRows;
 
 mod lists;
-
-// Word w of row i, where the rows start at `first`.
-pub fn row_word(mem: &[u32], first: usize, i: usize, w: usize) -> u32
-    requires { (first < 2 ^ 32) × (i ≤ 128) × (w < words_in_row) }
-    ensures { result ≡ word mem.now (first + words_in_row * i + w) }
-{
-    word(mem, first + RowRecord::WORDS * i + w)
-}
 
 // The words of a part's rows.
 pub fn rows_of(mem: &[u32], part: PartRows) -> &[u32]
@@ -41,13 +33,13 @@ pub fn line_of(mem: &[u32], part: PartRows, i: usize) -> &[u32]
 }
 
 // How many of a leaf's rows show their own vertex: those of its active vertices.
-pub fn active_rows(mem: &[u32], first: usize, size: usize) -> usize
-    requires { (first < 2 ^ 32) × (size ≤ 128) }
+pub fn active_rows(mem: &[u32], first: u32, size: usize) -> usize
+    requires { size ≤ 128 }
     ensures { (result ≡ rank (shows_own mem.now first) size) × (result ≤ size) }
 {
     let mut n = 0;
     for i in 0..size {
-        let near = row_word(mem, first, i, RowRecord::DISTANCE);
+        let near = row_word(mem, first, i as u32, RowRecord::DISTANCE);
         n = more(n, near == 0);
     }
     n
