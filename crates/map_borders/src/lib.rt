@@ -104,6 +104,8 @@ impl Measures {
         requires { parts ≤ most_parts }
         ensures { result ≡ each_from (few_at self.now.sizes) 0 parts }
     {
-        (0..parts).all(|p| self.sizes[p as usize] <= Part::MOST_BORDERS)
+        self.sizes[..parts as usize]
+            .iter()
+            .all(|size| *size <= Part::MOST_BORDERS)
     }
 }
