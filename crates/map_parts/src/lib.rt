@@ -139,6 +139,7 @@ impl<'a> ShownMap<'a> {
         if self.parent(0) != Part::NONE {
             return false;
         }
+        // Two arrays, not one of `Part`: one `tally` counts either.
         let children = tally(&self.parents[..self.counts.parts as usize]);
         let homes = tally(&self.leaves[..self.counts.vertices as usize]);
         self.tree_fits(&children, &homes) && self.vertices_stand(&children)
