@@ -1,7 +1,7 @@
 // The search for programs in other languages: it tests whatever words it is given, and runs where they show roads.
 #![tactic(auto)]
 
-ghost use Rattle.std.specs.Prelude.{◌≡◌, ◌↔◌, ◌+◌, ◌*◌, ◌≤◌, ◌<◌, length, IsTrue};
+ghost use Rattle.std.specs.Prelude.{◌≡◌, ◌↔◌, ◌+◌, ◌*◌, ◌≤◌, ◌<◌, ℕ, length, IsTrue};
 ghost use Rattle.layout.specs.Layout.{words_in_vertex, words_in_road};
 ghost use Rattle.road_search.specs.Layout.{first_out, LaidVertex, LaidRoad, LaidMap};
 ghost use Rattle.road_relax.specs.Relaxing.{shown_road};
@@ -55,13 +55,25 @@ impl Words<'_> {
             && (from + 1 == self.n || j < self.first_out(from + 1))
     }
 
+    // Whether all vertices are.
+    fn vertices_laid(&self) -> bool
+        ensures { IsTrue result ↔ ((v : ℕ) → v < self.now.n → LaidVertex self.now.mem.now self.now.vertices_at self.now.n self.now.count v) }
+    {
+        (0..self.n).all(|v| self.vertex_laid(v))
+    }
+
+    // Whether all roads are.
+    fn roads_laid(&self) -> bool
+        ensures { IsTrue result ↔ ((j : ℕ) → j < self.now.count → LaidRoad self.now.mem.now self.now.vertices_at self.now.n j (shown_road self.now.mem.now (self.now.roads_at + words_in_road * j))) }
+    {
+        (0..self.count).all(|j| self.road_laid(j))
+    }
+
     // Whether they show roads as a search needs them.
     fn laid(&self) -> bool
         ensures { IsTrue result ↔ LaidMap self.now.mem.now self.now.vertices_at self.now.n self.now.roads_at self.now.count }
     {
-        self.n <= 4096
-            && (0..self.n).all(|v| self.vertex_laid(v))
-            && (0..self.count).all(|j| self.road_laid(j))
+        self.n <= 4096 && self.vertices_laid() && self.roads_laid()
     }
 }
 
