@@ -20,12 +20,13 @@ use Rattle.roads.specs.Dist.{relax, relax_all, dist}
 use Rattle.roads.proofs.Trail.{Net}
 use Rattle.roads.proofs.Labels.{label, Told, Honest, told_most, relax_length, relax_lower, relax_all_length, relax_all_lower, relax_all_end, relax_all_honest}
 use Rattle.roads.proofs.Settled.{Settled, settled_dist}
-use Rattle.road_search.specs.Start.{begun}
 use Rattle.road_relax.specs.Relaxing.{offer, wake, wake_all}
-use Rattle.waiting.specs.Waiting.{Picked}
 use Rattle.road_relax.proofs.Relaxed.{get_d_there, taken, kept}
 
--- The labels to start from.
+-- The labels and the keys to start from: 0 at a, and FAR at every other place.
+
+unfoldable pub begun : ℕ → List ℕ
+begun a = set (replicate most_vertices FAR) a 0
 
 module _ (a : ℕ) where
   begun_length : length (begun a) ≡ most_vertices
@@ -176,13 +177,6 @@ module _ (m : Map) (net : Net m) (a : ℕ) (there : a < m.vertices) where
 
   to_limit : (r : Road) → Memᴰ r m.roads → r.to < most_vertices
   to_limit r h = omega (arith, net.to r h, net.few)
-
-  pub start_picked : Picked (begun a) m.vertices a
-  start_picked =
-      record {
-        waits = λ _ far. omega (arith, far, begun_zero a below, get_d_there (begun a) a 0 FAR (rw (begun_length a) below));
-        none = λ past. absurd (omega arith);
-      }
 
   pub going_start : Going m a (begun a) (begun a)
   going_start =

@@ -1,3 +1,2 @@
--- What the contracts cite: roads in the memory, and where a search starts.
+-- What the contracts cite: roads in the memory.
 pub mod Layout
-pub mod Start

@@ -2,99 +2,66 @@
 // The result does not depend on the order in which the waiting vertices are taken.
 #![tactic(auto)]
 
-ghost use Rattle.std.specs.Prelude.{◌≡◌, ◌+◌, ◌*◌, ◌≤◌, ◌<◌, length, set};
+ghost use Rattle.std.specs.Prelude.{◌≡◌, ◌<◌, length, set};
 ghost use Rattle.words.specs.Limits.{FAR, most_vertices};
-ghost use Rattle.layout.specs.Layout.{words_in_vertex};
 ghost use Rattle.roads.specs.Dist.{relax_all};
 ghost use Rattle.road_relax.specs.Relaxing.{wake_all};
 ghost use Rattle.road_search.specs.Layout.{LaidMap, Measured, next_out, roads_out};
-ghost use Rattle.road_search.specs.Start.{begun};
 
 use cells::wide;
 use layout::{RoadRecord, VertexRecord};
 use road_relax::relax_out;
-use waiting::{FAR, NO_KEY, pick, take};
+use waiting::{FAR, Waiting};
 
-// The number after that of the last road out of `u`.
-fn next_out(mem: &[u32], vertices_at: usize, n: usize, count: usize, u: usize) -> usize
-    requires n_in_bounds { vertices_at + words_in_vertex * n ≤ length mem.now }
-    requires u_lt_n { u < n }
-    ensures { result ≡ next_out mem.now vertices_at n count u }
-{
-    if u + 1 < n {
-        return wide(mem[vertices_at + VertexRecord::WORDS * (u + 1) + VertexRecord::ROADS]);
-    }
-    count
-}
-
-// The vertex `u` is taken: it ceases to wait, and its roads out are relaxed.
-fn turn(
-    mem: &[u32],
+// The words that show a map's roads: `n` vertices from `vertices_at` on, and `count` roads from `roads_at` on.
+#[derive(Drop)]
+struct Roads<'a> {
+    mem: &'a [u32],
     vertices_at: usize,
     n: usize,
     roads_at: usize,
     count: usize,
-    u: usize,
-    labels: &mut [u32; 4096],
-    keys: &mut [u32; 4096],
-    tree: &mut [u64; 1365],
-)
-    requires laid_map { LaidMap mem.now vertices_at n roads_at count }
-    requires u_lt_n { u < n }
-    requires labels_len { length labels.old ≡ most_vertices }
-    ensures labels_after { labels.new ≡ relax_all (roads_out mem.now vertices_at n roads_at count u) labels.old }
-    ensures keys_after { keys.new ≡ wake_all (roads_out mem.now vertices_at n roads_at count u) labels.old (set keys.old u FAR) }
-{
-    take(keys, tree, u);
-    let first = wide(mem[vertices_at + VertexRecord::WORDS * u + VertexRecord::ROADS]);
-    let next = next_out(mem, vertices_at, n, count, u);
-    relax_out(
-        mem,
-        roads_at + RoadRecord::WORDS * first,
-        next - first,
-        u,
-        labels,
-        keys,
-        tree,
-    );
+    ghost laid: { LaidMap mem.now vertices_at n roads_at count },
 }
 
-// From labels and keys that are 0 at `a` and FAR elsewhere, turns until no vertex waits.
-fn run(
-    mem: &[u32],
-    vertices_at: usize,
-    n: usize,
-    roads_at: usize,
-    count: usize,
-    a: usize,
-    labels: &mut [u32; 4096],
-    keys: &mut [u32; 4096],
-    tree: &mut [u64; 1365],
-)
-    requires laid_map { LaidMap mem.now vertices_at n roads_at count }
-    requires a_lt_n { a < n }
-    requires labels_value { labels.old ≡ begun a }
-    requires keys_value { keys.old ≡ begun a }
-    ensures { Measured mem.now n roads_at count a labels.new }
-{
-    let mut u = a;
-    while u < n {
-        turn(mem, vertices_at, n, roads_at, count, u, labels, keys, tree);
-        u = pick(keys, tree, n);
+impl Roads<'_> {
+    // The number after that of the last road out of `u`.
+    fn next_out(&self, u: usize) -> usize
+        requires { u < self.now.n }
+        ensures { result ≡ next_out self.now.mem.now self.now.vertices_at self.now.n self.now.count u }
+    {
+        if u + 1 < self.n {
+            return wide(
+                self.mem[self.vertices_at + VertexRecord::WORDS * (u + 1) + VertexRecord::ROADS],
+            );
+        }
+        self.count
+    }
+
+    // The vertex `u` is taken: it ceases to wait, and its roads out are relaxed.
+    fn turn(&self, u: usize, labels: &mut [u32; 4096], waiting: &mut Waiting)
+        requires u_lt_n { u < self.now.n }
+        requires labels_len { length labels.old ≡ most_vertices }
+        ensures labels_after { labels.new ≡ relax_all (roads_out self.now.mem.now self.now.vertices_at self.now.n self.now.roads_at self.now.count u) labels.old }
+        ensures keys_after { waiting.new ≡ wake_all (roads_out self.now.mem.now self.now.vertices_at self.now.n self.now.roads_at self.now.count u) labels.old (set waiting.old u FAR) }
+    {
+        waiting.take(u);
+        let first = wide(
+            self.mem[self.vertices_at + VertexRecord::WORDS * u + VertexRecord::ROADS],
+        );
+        let next = self.next_out(u);
+        relax_out(
+            self.mem,
+            self.roads_at + RoadRecord::WORDS * first,
+            next - first,
+            u,
+            labels,
+            waiting,
+        );
     }
 }
 
-// The labels and keys to start from: 0 at `a`, and FAR elsewhere.
-fn start(a: usize) -> [u32; 4096]
-    requires { a < most_vertices }
-    ensures { result ≡ begun a }
-{
-    let mut words = [FAR; 4096];
-    words[a] = 0;
-    words
-}
-
-// The labels become the distances from `a` over the roads that `mem` shows.
+// The labels become the distances from `a` over the roads that `mem` shows: they are 0 at `a` and FAR elsewhere, and fall turn after turn until no vertex waits.
 pub fn distances(
     mem: &[u32],
     vertices_at: usize,
@@ -108,18 +75,18 @@ pub fn distances(
     requires a_lt_n { a < n }
     ensures { Measured mem.now n roads_at count a labels.new }
 {
-    let mut keys = start(a);
-    *labels = keys;
-    let mut tree = [NO_KEY; 1365];
-    run(
+    let roads = Roads {
         mem,
         vertices_at,
         n,
         roads_at,
         count,
-        a,
-        labels,
-        &mut keys,
-        &mut tree,
-    );
+    };
+    let mut waiting = Waiting::none();
+    waiting.wait_with(a, 0);
+    *labels = [FAR; 4096];
+    labels[a] = 0;
+    while let Some(u) = waiting.pick(n) {
+        roads.turn(u, labels, &mut waiting);
+    }
 }
