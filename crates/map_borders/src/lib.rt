@@ -83,6 +83,7 @@ fn count_all(shown: &ShownMap, lifts: &[u32; 4096], counts: &mut [u32; 512])
 
 // The lift of each vertex; and the number of rows of each part, which is the vertices that stand in it, which only a leaf
 // has, and its borders, which only a non-leaf part has.
+#[derive(Drop)]
 pub struct Measures {
     pub lifts: [u32; 4096],
     pub sizes: [u32; 512],

@@ -5,10 +5,10 @@ use mathlib.Core.List.{List}
 use Prim.Native.Nat.{ℕ}
 use lib.ListN.{drop}
 use Rattle.words.specs.Limits.{NONE}
-use Rattle.maps.specs.Bytes.{Counts, number_at, decode}
+use Rattle.maps.specs.Bytes.{Counts, number_at, roads_of, decode}
 use Rattle.maps.proofs.Judged.{numbers_length, number_is}
 use Rattle.map_bytes.specs.Copied.{Copied}
-use Rattle.map_parts.specs.Bodies.{parents_body, leaves_body}
+use Rattle.map_parts.specs.Bodies.{parents_body, leaves_body, roads_body}
 use Rattle.map_parts.specs.Part.{ShowsPartsOf}
 
 pub shows_by : (bytes : List ℕ) (c : Counts) {first second old parents old' leaves : List ℕ} → first ≡ drop parents_body bytes → Copied first c.parts old parents
@@ -21,3 +21,7 @@ shows_by bytes c isFirst parents isSecond leaves =
       vertex_count = refl;
       leaf = λ v h. number_is c.vertices (drop (leaves_body c) bytes) v NONE h ∙ ap (λ (body : List ℕ). number_at body v) (sym isSecond) ∙ sym (leaves.each v h);
     }
+
+pub roads_by : (bytes : List ℕ) (c : Counts) {body : List ℕ} → body ≡ drop (roads_body c) bytes → (decode bytes c).roads ≡ roads_of c.roads body
+unfolding decode
+roads_by bytes c is = ap (roads_of c.roads) (sym is)

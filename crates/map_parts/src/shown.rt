@@ -1,9 +1,9 @@
 // The map that bytes show by the counts of record 1.
-ghost use Rattle.std.specs.Prelude.{◌≡◌, ◌≤◌, drop};
+ghost use Rattle.std.specs.Prelude.{◌≡◌, ◌≤◌};
 ghost use Rattle.words.specs.Limits.{most_vertices, most_roads, most_parts};
 ghost use Rattle.words.specs.Lists.{word};
-ghost use Rattle.maps.specs.Bytes.{decode};
-ghost use Rattle.map_parts.specs.Bodies.{the_counts, roads_body};
+ghost use Rattle.maps.specs.Bytes.{roads_of, decode};
+ghost use Rattle.map_parts.specs.Bodies.{the_counts};
 ghost use Rattle.map_parts.specs.Part.{ShowsPartsOf};
 
 use cells::word;
@@ -11,6 +11,7 @@ use counts::Counts;
 use map_bytes::{copy_numbers, rest};
 
 // The counts are within their limits.
+#[derive(Drop)]
 pub struct ShownMap<'a> {
     pub counts: Counts,
     // The parent of each part.
@@ -28,8 +29,8 @@ impl<'a> ShownMap<'a> {
     pub fn read(map: &'a [u8], counts: Counts) -> Self
         requires { (counts.vertices ≤ most_vertices) × (counts.roads ≤ most_roads) × (counts.parts ≤ most_parts) }
         ensures counts { result.counts ≡ counts }
-        ensures parts { ShowsPartsOf (decode map.now (the_counts counts.vertices counts.roads counts.parts)) result.parents result.leaves counts.vertices counts.parts }
-        ensures body { result.body.now ≡ drop (roads_body (the_counts counts.vertices counts.roads counts.parts)) map.now }
+        ensures parts { ShowsPartsOf (decode map.now (the_counts counts.vertices counts.roads counts.parts)) result.parents result.leaves result.counts.vertices result.counts.parts }
+        ensures roads { (decode map.now (the_counts counts.vertices counts.roads counts.parts)).roads ≡ roads_of result.counts.roads result.body.now }
     {
         let mut parents: [u32; 512] = [0; 512];
         copy_numbers(rest(map, 18), counts.parts, &mut parents);
