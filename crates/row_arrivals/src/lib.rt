@@ -14,11 +14,9 @@ use part_words::PartRows;
 use row_words::{place, row_of, source};
 use rows::Row;
 
-// The place of number 0 where it does not reach.
-const FIRST_PLACE: u64 = 18446744069414584320;
-
 // The place of what a row shows, seen d further on; where that is too far, the last of all numbers, which comes before no row: so the nearer of two rows is the lesser
 // of two numbers, without a jump.
+#[tactic(auto, unfolding(crate::specs::Arrival::placed_seen))]
 fn place_seen(seen: Row, d: u32) -> u64
     ensures { result ≡ placed_seen seen.vertex seen.distance d }
 {
@@ -30,6 +28,7 @@ fn place_seen(seen: Row, d: u32) -> u64
 }
 
 // Of a row, and of what another shows, seen d further on, the one that comes before.
+#[tactic(auto, using(crate::proofs::Offers::nearer_least))]
 fn nearer_place(row: u64, seen: Row, d: u32) -> u64
     ensures { unplaced result ≡ offered_to (unplaced row) seen.vertex seen.distance d }
 {
@@ -37,6 +36,7 @@ fn nearer_place(row: u64, seen: Row, d: u32) -> u64
 }
 
 // What a row shows is offered to a row that stands d further on.
+#[tactic(auto, using(crate::proofs::Offers::offered_is))]
 fn offer(mem: &mut [u32], to: usize, seen: Row, d: u32)
     requires { to + 1 < length mem.old }
     ensures { mem.new ≡ offered mem.old to seen.vertex seen.distance d }
@@ -95,12 +95,12 @@ fn nearest_number(mem: &[u32], numbers: &[u32], part: PartRows) -> usize
     requires are_rows { EachBelow part.size numbers.now }
     ensures { result ≡ lead numbers.now mem.now part.first }
 {
-    let mut best = FIRST_PLACE;
+    let mut best = place(0, Row::FAR);
     for i in numbers {
         let seen = source(mem, part.row(wide(*i)));
         best = best.min(place(*i, seen.distance));
     }
-    (best % 4294967296) as usize
+    wide(row_of(best).vertex)
 }
 
 // The sources of the rows with these numbers are met, the nearest first: what it brings the others often need not bring again. Says whether any was offered.

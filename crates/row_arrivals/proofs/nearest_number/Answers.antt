@@ -1,6 +1,7 @@
 -- `row_arrivals::nearest_number` is `lead`.
 use mathlib.Core.Path.{sym, ◌∙◌, ap}
 use Prim.Native.Nat.{ℕ, ◌%◌}
+use Rattle.rows.specs.declared.Row.{Row}
 use Rattle.row_arrivals.proofs.Sources.{lead_turn, lead_done}
 use native.Mathlib.Omega.{arith}
 use Rattle.row_arrivals.proofs.nearest_number.Goals as goal
@@ -11,4 +12,4 @@ loop-i-preserved c =
 
 pub returns : goal.returns
 returns c =
-    ap (λ (k : ℕ). k % 4294967296) (sym (lead_done c.args.mem.now c.args.part.first c.args.numbers.now c.loop-i.i-index c.loop-i.best c.loop-i-test.false) ∙ c.loop-i.invariant)
+    c.wide-2.ensures ∙ ap (λ (r : Row). r.vertex) c.row_of.ensures ∙ ap (λ (k : ℕ). k % 4294967296) (sym (lead_done c.args.mem.now c.args.part.first c.args.numbers.now c.loop-i.i-index c.loop-i.best c.loop-i-test.false) ∙ c.loop-i.invariant)
