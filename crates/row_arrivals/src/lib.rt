@@ -48,6 +48,7 @@ fn offer(mem: &mut [u32], to: usize, seen: Row, d: u32)
 }
 
 // It is offered to all rows of a part, with the distances of a line of the table.
+#[tactic(auto, using(crate::proofs::Offers::spread_turn, crate::proofs::Offers::spread_done))]
 fn spread_line(mem: &mut [u32], part: PartRows, line: usize, seen: Row)
     requires within { Within mem.old part }
     requires line { line + part.size ≤ length mem.old }
@@ -77,6 +78,7 @@ fn meet(mem: &mut [u32], part: PartRows, v: u32, i: usize) -> bool
 }
 
 // The sources of the rows with these numbers are met. Says whether any was offered.
+#[tactic(auto, using(crate::proofs::Sources::arrived_turn, crate::proofs::Sources::arrived_done, crate::proofs::Sources::news_turn, crate::proofs::Sources::news_done, crate::proofs::Sources::or_comm))]
 fn meet_all(mem: &mut [u32], numbers: &[u32], part: PartRows, v: u32) -> bool
     requires within { Within mem.old part }
     requires are_rows { EachBelow part.size numbers.now }
@@ -90,6 +92,7 @@ fn meet_all(mem: &mut [u32], numbers: &[u32], part: PartRows, v: u32) -> bool
 }
 
 // Of the rows with these numbers one whose source is the nearest: its number.
+#[tactic(auto, using(crate::proofs::Sources::lead_turn, crate::proofs::Sources::lead_done))]
 fn nearest_number(mem: &[u32], numbers: &[u32], part: PartRows) -> usize
     requires within { Within mem.now part }
     requires are_rows { EachBelow part.size numbers.now }
