@@ -1,14 +1,18 @@
--- `row_arrivals::meet_all` is `arrived`, and says `any_news`: what is left to meet from here stays the whole.
+-- `row_arrivals::meet_all` is `arrived`, and says `any_news`.
 use mathlib.Core.Path.{sym, ◌∙◌}
-use Rattle.row_arrivals.proofs.Sources.{arrived_turn, arrived_done, news_turn, news_done}
-use borrow.Author.Rules.{rules}
+use mathlib.Core.Bool.{◌||◌}
+use Rattle.row_arrivals.proofs.Sources.{or_comm, arrived_turn, arrived_done, news_turn, news_done}
 use native.Mathlib.Omega.{arith}
 use Rattle.row_arrivals.proofs.meet_all.Goals as goal
 
-pub loop-k-preserved : goal.loop-k-preserved
-loop-k-preserved c =
-    (search rules, omega arith, arrived_turn c.args.numbers.now c.loop-k.k (omega arith) c.loop-k.mem _ c.args.rows c.args.table c.args.size c.args.v _ c.wide.ensures c.meet-any.ensures.0 ∙ c.loop-k.invariant.2, news_turn c.args.numbers.now c.loop-k.k (omega arith) c.loop-k.mem _ c.args.rows c.args.table c.args.size c.args.v _ c.wide.ensures c.meet-any.ensures.0 c.loop-k.any _ c.meet-any.ensures.1 ∙ c.loop-k.invariant.3)
+pub loop-i-preserved : goal.loop-i-preserved
+loop-i-preserved c = (
+  arrived_turn c.args.numbers.now c.loop-i.i-index (omega arith) c.loop-i.mem _ c.args.part.first c.args.part.table c.args.part.size c.args.v _ c.wide.ensures c.meet-any.ensures.0 ∙ c.loop-i.invariant.0,
+  news_turn c.args.numbers.now c.loop-i.i-index (omega arith) c.loop-i.mem _ c.args.part.first c.args.part.table c.args.part.size c.args.v _ c.wide.ensures c.meet-any.ensures.0 c.loop-i.any _ (or_comm c.loop-i.any c.meet-any.result ∙ λ t. c.meet-any.ensures.1 t || c.loop-i.any) ∙ c.loop-i.invariant.1,
+)
 
 pub returns : goal.returns
-returns c =
-    (sym (arrived_done c.args.numbers.now c.loop-k.k c.loop-k-test.false c.loop-k.mem c.args.rows c.args.table c.args.size c.args.v) ∙ c.loop-k.invariant.2, sym (news_done c.args.numbers.now c.loop-k.k c.loop-k-test.false c.loop-k.mem c.args.rows c.args.table c.args.size c.args.v c.loop-k.any) ∙ c.loop-k.invariant.3)
+returns c = (
+  sym (arrived_done c.args.numbers.now c.loop-i.i-index c.loop-i-test.false c.loop-i.mem c.args.part.first c.args.part.table c.args.part.size c.args.v) ∙ c.loop-i.invariant.0,
+  sym (news_done c.args.numbers.now c.loop-i.i-index c.loop-i-test.false c.loop-i.mem c.args.part.first c.args.part.table c.args.part.size c.args.v c.loop-i.any) ∙ c.loop-i.invariant.1,
+)

@@ -3,9 +3,8 @@ use Rattle.row_arrivals.proofs.Offers.{seen_near, seen_far}
 use native.Mathlib.Omega.{arith}
 use Rattle.row_arrivals.proofs.place_seen.Goals as goal
 
-pub returns-then-d-x : goal.returns-then-d-x
-returns-then-d-x c =
-    seen_near c.args.v c.args.x c.args.d _ c.if-d-x.true c.place.ensures.0
+pub returns-then-d-seen : goal.returns-then-d-seen
+returns-then-d-seen c = seen_near c.args.seen.vertex c.args.seen.distance c.args.d _ c.if-d-seen.true c.place.ensures.0
 
-pub returns : goal.returns
-returns c = seen_far c.args.v c.args.x c.args.d (omega arith) c.if-d-x.false
+pub returns-else-d-seen : goal.returns-else-d-seen
+returns-else-d-seen c = seen_far c.args.seen.vertex c.args.seen.distance c.args.d (omega arith) c.if-d-seen.false
