@@ -16,7 +16,7 @@ use rows::Row;
 const KEY: u64 = 65536;
 
 // The least key of what does not reach.
-const FAR_KEY: u64 = 281474976645120;
+const FAR_KEY: u64 = Row::FAR as u64 * KEY;
 
 // What stands one step further down from a row of a part, as a key; and how far into the table the row's line is.
 #[derive(Clone, Copy)]
@@ -39,6 +39,7 @@ fn key_seen(key: u64, d: u32) -> u64
     key + u64::from(d) * KEY
 }
 
+#[tactic(auto, unfolding(crate::specs::Departure::unkeyed))]
 fn row_of_key(key: u64) -> Row
     ensures { result ≡ unkeyed key }
 {
