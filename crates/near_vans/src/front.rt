@@ -37,23 +37,20 @@ impl Model for Front {
 }
 
 impl Front {
-    ghost use Rattle.std.specs.Prelude.{◌≡◌, ◌<◌, IfSome, MatchOption};
+    ghost use Rattle.std.specs.Prelude.{◌≡◌, ◌%◌, ◌<◌, IfSome, MatchOption};
     ghost use Rattle.words.specs.Lists.{word};
-    ghost use Rattle.near_vans.specs.Around.{Started, LeastLabel, Taken, HasPlace, Met, MetAll};
+    ghost use Rattle.near_vans.specs.Around.{NothingTaken, LeastLabel, Taken, HasPlace, Met, MetAll};
 
-    // Vertex x waits alone, at 0.
-    pub fn around(x: u32) -> Self
-        ensures { Started x result }
+    // No vertex was taken, and none waits.
+    pub fn new() -> Self
+        ensures { NothingTaken result }
     {
-        let mut front = Front {
+        Front {
             at: [0; 4096],
             labels: [0; 128],
             vertices: [0; 128],
-            len: 1,
-        };
-        front.at[(x % VERTICES) as usize] = 1;
-        front.vertices[0] = x % VERTICES;
-        front
+            len: 0,
+        }
     }
 
     // The place of the least label, and that label, where any vertex waits.
@@ -103,11 +100,11 @@ impl Front {
         }
     }
 
-    // Vertex u was met at distance `far`: it waits now, with no more than that, if it was not taken. There may be no room.
-    fn meet(&mut self, u: usize, far: u32) -> Option<()>
-        requires { u < 4096 }
-        ensures { IfSome result (λ _. Met u far self.old self.new) }
+    // A vertex was met at distance `far`: it waits now, with no more than that, if it was not taken. There may be no room.
+    pub fn meet(&mut self, vertex: u32, far: u32) -> Option<()>
+        ensures { IfSome result (λ _. Met (vertex % 4096) far self.old self.new) }
     {
+        let u = (vertex % VERTICES) as usize;
         if self.at[u] == TAKEN {
             return Some(());
         }
@@ -139,10 +136,9 @@ impl Front {
             };
             let r = road_at(counts, number);
             let road = mem.get(r..r + RoadRecord::WORDS)?;
-            let u = (road[RoadRecord::FROM] % VERTICES) as usize;
             let far = far_sum(near, road[RoadRecord::WEIGHT]);
             link = road[RoadRecord::NEXT];
-            self.meet(u, far)?;
+            self.meet(road[RoadRecord::FROM], far)?;
         }
         None
     }
