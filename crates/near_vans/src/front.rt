@@ -1,4 +1,6 @@
 // The vertices around the caller that a search has reached: which of them were taken, and which wait, each with a label.
+ghost use Rattle.std.specs.Prelude.{◌≡◌, ◌<◌, ◌≤◌, MatchOption, length, slice_index, EachIndex};
+
 use counts::Counts;
 use far_sums::far_sum;
 use layout::RoadRecord;
@@ -36,6 +38,17 @@ impl Model for Front {
     ghost invariant = { λ f. f.len ≤ 128 };
 }
 
+// The place of the least label, and that label.
+fn least_of(labels: &[u32]) -> Option<(usize, u32)>
+    ensures { MatchOption result (length labels.now ≡ 0) (λ m. (m.0 < length labels.now) × (slice_index labels.now m.0 ≡ m.1) × EachIndex labels.now (λ i. m.1 ≤ slice_index labels.now i)) }
+{
+    labels
+        .iter()
+        .copied()
+        .enumerate()
+        .min_by_key(|(_, label)| *label)
+}
+
 impl Front {
     ghost use Rattle.std.specs.Prelude.{◌≡◌, ◌%◌, ◌<◌, IfSome, MatchOption};
     ghost use Rattle.words.specs.Lists.{word};
@@ -57,19 +70,7 @@ impl Front {
     pub fn least(&self) -> Option<(usize, u32)>
         ensures { MatchOption result (self.now.n ≡ 0) (λ (i, low). LeastLabel self.now.labels self.now.n i × (low ≡ word self.now.labels i)) }
     {
-        if self.len == 0 {
-            return None;
-        }
-        let mut place = 0;
-        let mut low = self.labels[0];
-        for i in 1..self.len {
-            let label = self.labels[i];
-            if label < low {
-                low = label;
-                place = i;
-            }
-        }
-        Some((place, low))
+        least_of(&self.labels[..self.len])
     }
 
     // The vertex at place i is taken: the last of those that wait gets its place.
