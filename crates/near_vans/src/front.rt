@@ -1,4 +1,6 @@
 // The vertices around the caller that a search has reached: which of them were taken, and which wait, each with a label.
+ghost use Rattle.std.specs.Prelude.{◌≡◌, ◌<◌, ◌≤◌, MatchOption, length, slice_index, EachIndex};
+
 use counts::Counts;
 use far_sums::far_sum;
 use layout::RoadRecord;
@@ -36,43 +38,39 @@ impl Model for Front {
     ghost invariant = { λ f. f.len ≤ 128 };
 }
 
-impl Front {
-    ghost use Rattle.std.specs.Prelude.{◌≡◌, ◌<◌, IfSome, MatchOption};
-    ghost use Rattle.words.specs.Lists.{word};
-    ghost use Rattle.near_vans.specs.Around.{Started, LeastLabel, Taken, HasPlace, Met, MetAll};
+// The place of the least label, and that label.
+fn least_of(labels: &[u32]) -> Option<(usize, u32)>
+    ensures { MatchOption result (length labels.now ≡ 0) (λ m. (m.0 < length labels.now) × (slice_index labels.now m.0 ≡ m.1) × EachIndex labels.now (λ i. m.1 ≤ slice_index labels.now i)) }
+{
+    labels
+        .iter()
+        .copied()
+        .enumerate()
+        .min_by_key(|(_, label)| *label)
+}
 
-    // Vertex x waits alone, at 0.
-    pub fn around(x: u32) -> Self
-        ensures { Started x result }
+impl Front {
+    ghost use Rattle.std.specs.Prelude.{◌≡◌, ◌%◌, ◌<◌, IfSome, MatchOption};
+    ghost use Rattle.words.specs.Lists.{word};
+    ghost use Rattle.near_vans.specs.Around.{NothingTaken, LeastLabel, Taken, HasPlace, Met, MetAll};
+
+    // No vertex was taken, and none waits.
+    pub fn new() -> Self
+        ensures { NothingTaken result }
     {
-        let mut front = Front {
+        Front {
             at: [0; 4096],
             labels: [0; 128],
             vertices: [0; 128],
-            len: 1,
-        };
-        front.at[(x % VERTICES) as usize] = 1;
-        front.vertices[0] = x % VERTICES;
-        front
+            len: 0,
+        }
     }
 
     // The place of the least label, and that label, where any vertex waits.
     pub fn least(&self) -> Option<(usize, u32)>
         ensures { MatchOption result (self.now.n ≡ 0) (λ (i, low). LeastLabel self.now.labels self.now.n i × (low ≡ word self.now.labels i)) }
     {
-        if self.len == 0 {
-            return None;
-        }
-        let mut place = 0;
-        let mut low = self.labels[0];
-        for i in 1..self.len {
-            let label = self.labels[i];
-            if label < low {
-                low = label;
-                place = i;
-            }
-        }
-        Some((place, low))
+        least_of(&self.labels[..self.len])
     }
 
     // The vertex at place i is taken: the last of those that wait gets its place.
@@ -103,11 +101,11 @@ impl Front {
         }
     }
 
-    // Vertex u was met at distance `far`: it waits now, with no more than that, if it was not taken. There may be no room.
-    fn meet(&mut self, u: usize, far: u32) -> Option<()>
-        requires { u < 4096 }
-        ensures { IfSome result (λ _. Met u far self.old self.new) }
+    // A vertex was met at distance `far`: it waits now, with no more than that, if it was not taken. There may be no room.
+    pub fn meet(&mut self, vertex: u32, far: u32) -> Option<()>
+        ensures { IfSome result (λ _. Met (vertex % 4096) far self.old self.new) }
     {
+        let u = (vertex % VERTICES) as usize;
         if self.at[u] == TAKEN {
             return Some(());
         }
@@ -139,10 +137,9 @@ impl Front {
             };
             let r = road_at(counts, number);
             let road = mem.get(r..r + RoadRecord::WORDS)?;
-            let u = (road[RoadRecord::FROM] % VERTICES) as usize;
             let far = far_sum(near, road[RoadRecord::WEIGHT]);
             link = road[RoadRecord::NEXT];
-            self.meet(u, far)?;
+            self.meet(road[RoadRecord::FROM], far)?;
         }
         None
     }
