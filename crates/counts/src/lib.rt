@@ -2,8 +2,8 @@
 #![tactic(auto)]
 
 ghost use Rattle.std.specs.Prelude.{◌≡◌};
-ghost use Rattle.words.specs.Tests.{within};
 ghost use Rattle.maps.specs.Rules.{counts_fit};
+ghost use Rattle.words.specs.Tests.{within};
 
 #[derive(Clone, Copy)]
 pub struct Counts {
@@ -16,13 +16,7 @@ pub struct Counts {
 pub fn is_within(low: u32, high: u32, n: u32) -> bool
     ensures { result ≡ within low high n }
 {
-    if n < low {
-        return false;
-    }
-    if high < n {
-        return false;
-    }
-    true
+    (low..=high).contains(&n)
 }
 
 impl Counts {
@@ -36,12 +30,8 @@ impl Counts {
     pub fn fit(self) -> bool
         ensures { result ≡ counts_fit self.vertices self.roads self.parts }
     {
-        if !is_within(1, Counts::MOST_VERTICES, self.vertices) {
-            return false;
-        }
-        if Counts::MOST_ROADS < self.roads {
-            return false;
-        }
-        is_within(1, Counts::MOST_PARTS, self.parts)
+        (1..=Counts::MOST_VERTICES).contains(&self.vertices)
+            && self.roads <= Counts::MOST_ROADS
+            && (1..=Counts::MOST_PARTS).contains(&self.parts)
     }
 }

@@ -13,7 +13,8 @@ use borrow.Author.Tests.{ltb-true, ltb-false, lt-ltb, le-ltb, eq-eqb, ne_eqb}
 use Rattle.words.specs.Limits.{most_vertices, NONE}
 use Rattle.words.specs.Lists.{count_from, word, any}
 use Rattle.cells.specs.Lowered.{lowered}
-use Rattle.maps.specs.Bytes.{field}
+use Rattle.roads.specs.Map.{Road}
+use Rattle.maps.specs.Bytes.{field, road_shown}
 use Rattle.map_borders.specs.Lift.{most_steps, meet, road_meet, lifted, outside, Lifted}
 
 pub lowered_length : (lifts : List ℕ) (v x : ℕ) → length (lowered lifts v x) ≡ length lifts
@@ -24,13 +25,15 @@ unfolding lifted
 lifted_length parents leaves body i lifts = simp length-set
 
 -- what `lift_road` has read and done
-pub lifted_by : (parents leaves body : List ℕ) (i : ℕ) (lifts : List ℕ) {from to a b x u v : ℕ} {first second : List ℕ}
-    → from ≡ field body (8 * i) 2 → to ≡ field body (8 * i + 2) 2 → a ≡ word leaves from → b ≡ word leaves to → x ≡ meet parents most_steps a b → u ≡ from → v ≡ to
-    → first ≡ lowered lifts u x → second ≡ lowered first v x → second ≡ lifted parents leaves body i lifts
-unfolding lifted road_meet
-lifted_by parents leaves body i lifts {x = x} isFrom isTo is_a is_b isX isU isV isFirst isSecond =
+pub lifted_by : (parents leaves body : List ℕ) (i : ℕ) (lifts : List ℕ) {r : Road} {a b x : ℕ} {first second : List ℕ}
+    → r ≡ road_shown body i → a ≡ word leaves r.from → b ≡ word leaves r.to → x ≡ meet parents most_steps a b
+    → first ≡ lowered lifts r.from x → second ≡ lowered first r.to x → second ≡ lifted parents leaves body i lifts
+unfolding lifted road_meet road_shown
+lifted_by parents leaves body i lifts {r} {x = x} isRoad is_a is_b isX isFirst isSecond =
+    let isFrom : r.from ≡ field body (8 * i) 2 = ap (λ (s : Road). s.from) isRoad in
+    let isTo : r.to ≡ field body (8 * i + 2) 2 = ap (λ (s : Road). s.to) isRoad in
     let whole : x ≡ road_meet parents leaves body i = isX ∙ λ j. meet parents most_steps ((is_a ∙ ap (word leaves) isFrom) j) ((is_b ∙ ap (word leaves) isTo) j) in
-    isSecond ∙ (λ j. lowered (isFirst j) ((isV ∙ isTo) j) (whole j)) ∙ λ j. lowered (lowered lifts ((isU ∙ isFrom) j) (whole j)) (field body (8 * i + 2) 2) (road_meet parents leaves body i)
+    isSecond ∙ (λ j. lowered (isFirst j) (isTo j) (whole j)) ∙ λ j. lowered (lowered lifts (isFrom j) (whole j)) (field body (8 * i + 2) 2) (road_meet parents leaves body i)
 
 -- below c after: below c before, or the new one is
 lesser_below : (x y c : ℕ) → ltb (min y x) c ≡ (ltb x c || ltb y c)

@@ -1,6 +1,6 @@
 -- The way up from a leaf that counts a vertex for each part that it is a border of; and the loop over the vertices.
 -- Assumes nothing.
-use mathlib.Core.Path.{◌≡◌, refl, sym, ap, ◌∙◌}
+use mathlib.Core.Path.{◌≡◌, refl, sym, ap, subst, ◌∙◌}
 use mathlib.Core.Bool.{Bool, cond}
 use mathlib.Core.List.{List, map}
 use Prim.Native.Nat.{ℕ, zero, suc, ◌+◌, ◌*◌, ◌-◌, ◌<◌, ◌≤◌}
@@ -12,7 +12,8 @@ use lib.Dec.{eqb}
 use borrow.Author.Tests.{lt-ltb, le-ltb, eq-eqb, ne_eqb}
 use Rattle.words.specs.Limits.{most_parts}
 use Rattle.words.specs.Lists.{count_from, sum, word}
-use Rattle.map_borders.specs.Mark.{bumped, steps, Marked, BordersCounted}
+use Rattle.map_parts.specs.Tally.{bumped}
+use Rattle.map_borders.specs.Mark.{steps, Marked, BordersCounted}
 
 bumped_length : (counts : List ℕ) (p : ℕ) → length (bumped counts p) ≡ length counts
 unfolding bumped
@@ -68,9 +69,9 @@ module _ {parents : List ℕ} {lift leaf : ℕ} {counts : List ℕ} where
   pub marking_start : length counts ≡ most_parts → Marking parents lift leaf counts most_parts leaf counts
   marking_start room = record { room = room; reached = omega arith; few = λ p. omega arith; each = λ p h. refl }
 
-  pub marking_step : {now after : List ℕ} (left part above : ℕ) → Marking parents lift leaf counts left part now → 0 < left → lift < part → above ≡ word parents part
+  marking_next : {now after : List ℕ} (left part above : ℕ) → Marking parents lift leaf counts left part now → 0 < left → lift < part → above ≡ word parents part
       → after ≡ bumped now above → Marking parents lift leaf counts (left - 1) above after
-  marking_step {now} {after} left part above s some more is moved =
+  marking_next {now} {after} left part above s some more is moved =
       record {
         room = ap length moved ∙ bumped_length now above ∙ s.room;
         reached = omega (arith, s.reached);
@@ -84,6 +85,13 @@ module _ {parents : List ℕ} {lift leaf : ℕ} {counts : List ℕ} where
               steps_more parents left lift part p some more ∙ ap (λ (q : ℕ). cond (eqb q p) 1 0 + steps parents (left - 1) lift q p) (sym is),
             );
       }
+
+  -- i steps are taken
+  pub marking_step : {now after : List ℕ} (i part above : ℕ) → Marking parents lift leaf counts (most_parts - i) part now → i < most_parts → lift < part → above ≡ word parents part
+      → after ≡ bumped now above → Marking parents lift leaf counts (most_parts - (i + 1)) above after
+  marking_step {after = after} i part above s some more is moved =
+      subst (λ (left : ℕ). Marking parents lift leaf counts left above after) (let same : most_parts - i - 1 ≡ most_parts - (i + 1) = omega arith in same)
+      (marking_next (most_parts - i) part above s (omega arith) more is moved)
 
   pub marking_stop : {now : List ℕ} (left part : ℕ) → Marking parents lift leaf counts left part now → part ≤ lift → Marked parents lift leaf counts now
   marking_stop left part s h =

@@ -17,26 +17,28 @@ use Rattle.map_borders.specs.Lift.{meet}
 
 -- The loop.
 
-module _ (parents : List ℕ) where
-  pub meet_none : (left a b : ℕ) → left ≤ 0 → meet parents left a b ≡ 0
+-- i of the n steps are taken
+module _ (parents : List ℕ) (n i : ℕ) where
+  pub meet_none : (a b : ℕ) → n ≤ i → meet parents (n - i) a b ≡ 0
   unfolding meet
-  meet_none zero a b h = refl
-  meet_none (suc left) a b h = absurd (omega arith)
+  meet_none a b h = ap (λ (left : ℕ). meet parents left a b) (let none : n - i ≡ 0 = omega arith in none)
 
-  pub meet_here : (left a b : ℕ) → 0 < left → a ≡ b → meet parents left a b ≡ a
-  unfolding meet
-  meet_here zero a b h same = absurd (omega arith)
-  meet_here (suc left) a b h same = ap (λ (t : Bool). cond t a (meet parents left (min a b) (word parents (max a b)))) (eq-eqb a b same)
+  next : i < n → n - i ≡ suc (n - (i + 1))
+  next h = omega arith
 
-  pub meet_above : (left a b : ℕ) {low high above : ℕ} → 0 < left → (a ≡ b → ⊥) → low ≡ min a b → high ≡ max a b → above ≡ word parents high
-      → meet parents left a b ≡ meet parents (left - 1) low above
+  pub meet_here : (a b : ℕ) → i < n → a ≡ b → meet parents (n - i) a b ≡ a
   unfolding meet
-  meet_above zero a b h other isLow isHigh isAbove = absurd (omega arith)
-  meet_above (suc left) a b {low} {high} {above} h other isLow isHigh isAbove =
-      let fewer : left ≡ suc left - 1 = omega arith in
+  meet_here a b h same =
+      ap (λ (left : ℕ). meet parents left a b) (next h) ∙ ap (λ (t : Bool). cond t a (meet parents (n - (i + 1)) (min a b) (word parents (max a b)))) (eq-eqb a b same)
+
+  pub meet_above : (a b : ℕ) {low high above : ℕ} → i < n → (a ≡ b → ⊥) → low ≡ min a b → high ≡ max a b → above ≡ word parents high
+      → meet parents (n - i) a b ≡ meet parents (n - (i + 1)) low above
+  unfolding meet
+  meet_above a b {low} {high} {above} h other isLow isHigh isAbove =
       let same : word parents (max a b) ≡ above = sym (isAbove ∙ ap (word parents) isHigh) in
-      ap (λ (t : Bool). cond t a (meet parents left (min a b) (word parents (max a b)))) (ne_eqb a b other)
-      ∙ λ i. meet parents (fewer i) (sym isLow i) (same i)
+      ap (λ (left : ℕ). meet parents left a b) (next h)
+      ∙ ap (λ (t : Bool). cond t a (meet parents (n - (i + 1)) (min a b) (word parents (max a b)))) (ne_eqb a b other)
+      ∙ λ j. meet parents (n - (i + 1)) (sym isLow j) (same j)
 
 -- The theory. x is the lowest part that is a and b or lies above them.
 pub record Common (m : Map) (a b x : ℕ) : Type 0 where

@@ -1,11 +1,7 @@
 -- How many vertices are borders of each part, counted on the way up from their leaves.
-use Rattle.std.specs.Prelude.{◌≡◌, Bool, cond, List, map, ℕ, zero, suc, ◌+◌, ◌<◌, ◌≤◌, length, set, leb, ltb, eqb}
+use Rattle.std.specs.Prelude.{◌≡◌, Bool, cond, List, map, ℕ, zero, suc, ◌+◌, ◌<◌, ◌≤◌, length, leb, ltb, eqb}
 use Rattle.words.specs.Limits.{most_parts, most_borders}
 use Rattle.words.specs.Lists.{count_from, word, sum}
-
--- one more at p
-unfoldable pub bumped : List ℕ → ℕ → List ℕ
-bumped counts p = set counts p (word counts p + 1)
 
 -- on the way up from c, in n steps: how often a part above the lift has the parent p
 unfoldable pub steps : List ℕ → ℕ → ℕ → ℕ → ℕ → ℕ

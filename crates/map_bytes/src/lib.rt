@@ -6,63 +6,48 @@ ghost use Rattle.maps.specs.Bytes.{field, is_record, number_at};
 ghost use Rattle.map_bytes.specs.Copied.{Copied};
 
 // The byte at `at`.
-fn byte(bytes: &[u8], at: usize) -> u32
-    ensures { (result ≡ get_or bytes.now at 0) × (result < 256) }
+fn byte(bytes: &[u8], at: usize) -> u8
+    ensures { result ≡ get_or bytes.now at 0 }
 {
-    if at < bytes.len() {
-        bytes[at] as u32
-    } else {
-        0
-    }
-}
-
-// The number of 2 bytes at `at`.
-pub fn number2(bytes: &[u8], at: usize) -> u32
-    ensures { (result ≡ field bytes.now at 2) × (result < 65536) }
-{
-    if bytes.len() <= at {
-        return 0;
-    }
-    byte(bytes, at) + 256 * byte(bytes, at + 1)
-}
-
-// The number of 4 bytes at `at`.
-pub fn number4(bytes: &[u8], at: usize) -> u32
-    ensures { result ≡ field bytes.now at 4 }
-{
-    if bytes.len() <= at {
-        return 0;
-    }
-    let rest = &bytes[at..];
-    number2(rest, 0) + 65536 * number2(rest, 2)
-}
-
-// The record at `at` has this kind and this length, and is not cut.
-pub fn is_record(bytes: &[u8], at: u32, kind: u32, len: u32) -> bool
-    ensures { result ≡ is_record bytes.now at kind len }
-{
-    let start = at as usize;
-    if bytes.len() < start + 4 + len as usize {
-        return false;
-    }
-    if number4(bytes, start) != len {
-        return false;
-    }
-    number2(bytes, start + 4) == kind
+    bytes.get(at).copied().unwrap_or(0)
 }
 
 // The bytes from `at` on.
 pub fn rest(bytes: &[u8], at: usize) -> &[u8]
     ensures { result.now ≡ drop at bytes.now }
 {
-    let end = bytes.len();
-    if end < at {
-        return &bytes[end..];
-    }
-    &bytes[at..]
+    bytes.get(at..).unwrap_or(&[])
+}
+
+// The number of 2 bytes at `at`.
+pub fn number2(bytes: &[u8], at: usize) -> u32
+    ensures { (result ≡ field bytes.now at 2) × (result < 65536) }
+{
+    let rest = rest(bytes, at);
+    u16::from_le_bytes([byte(rest, 0), byte(rest, 1)]) as u32
+}
+
+// The number of 4 bytes at `at`.
+pub fn number4(bytes: &[u8], at: usize) -> u32
+    ensures { result ≡ field bytes.now at 4 }
+{
+    let rest = rest(bytes, at);
+    u32::from_le_bytes([byte(rest, 0), byte(rest, 1), byte(rest, 2), byte(rest, 3)])
+}
+
+// The record at `at` has this kind and this length, and is not cut.
+#[tactic(auto, unfolding(maps::specs::Bytes::is_record))]
+pub fn is_record(bytes: &[u8], at: u32, kind: u32, len: u32) -> bool
+    ensures { result ≡ is_record bytes.now at kind len }
+{
+    let start = at as usize;
+    start + 4 + len as usize <= bytes.len()
+        && number4(bytes, start) == len
+        && number2(bytes, start + 4) == kind
 }
 
 // Number i of a record's body.
+#[tactic(auto, unfolding(maps::specs::Bytes::number_at))]
 pub fn number_at(body: &[u8], i: u32) -> u32
     ensures { result ≡ number_at body.now i }
 {
@@ -74,10 +59,7 @@ pub fn copy_numbers(body: &[u8], n: u32, words: &mut [u32])
     requires { n ≤ length words.old }
     ensures { Copied body.now n words.old words.new }
 {
-    let mut i: u32 = 0;
-    while i < n {
-        let x = number_at(body, i);
-        words[i as usize] = x;
-        i += 1;
+    for i in 0..n {
+        words[i as usize] = number_at(body, i);
     }
 }

@@ -6,7 +6,7 @@ use mathlib.Core.List.{List}
 use Prim.Native.Nat.{ℕ, ◌<◌, ◌≤◌}
 use lib.ListN.{length}
 use borrow.Author.Tests.{leb-true}
-use Rattle.words.specs.Limits.{most_borders}
+use Rattle.words.specs.Limits.{most_vertices, most_parts, most_borders}
 use Rattle.words.specs.Lists.{up_to, word}
 use Rattle.words.specs.Tests.{◌unless◌then◌}
 use Rattle.words.proofs.Lists.{up_to_has, all_at}
@@ -24,7 +24,7 @@ use Rattle.map_borders.specs.Mark.{few_at}
 use Rattle.map_borders.specs.Sizes.{Given, Sizes}
 use Rattle.map_borders.proofs.Earlier.{told as known}
 use Rattle.map_borders.proofs.Borders.{borders_fit_is}
-use Rattle.map_judge.specs.Bodies.{the_counts, Limited}
+use Rattle.map_parts.specs.Bodies.{the_counts}
 use Rattle.map_judge.specs.Need.{need_of}
 use Rattle.map_judge.specs.Verdict.{needing, due, ruled}
 use Rattle.map_judge.proofs.Needs.{need_is}
@@ -41,10 +41,10 @@ pub roads_known : (m : Map) (body : List ℕ) (n count : ℕ) {fit known : Bool}
 roads_known m body n count vertices roads is e =
     sym (is ∙ ap (λ (v : ℕ). each_from (road_test body v) 0 n) (sym vertices) ∙ roads_fit_is m body n roads) ∙ e
 
-pub given_of : {m : Map} {parents leaves : List ℕ} (body : List ℕ) (v r p : ℕ) → Limited (the_counts v r p) → ShowsPartsOf m parents leaves v p → m.roads ≡ roads_of r body
+pub given_of : {m : Map} {parents leaves : List ℕ} (body : List ℕ) (v r p : ℕ) → v ≤ most_vertices → p ≤ most_parts → ShowsPartsOf m parents leaves v p → m.roads ≡ roads_of r body
     → parts_fit m ≡ true → roads_fit m ≡ true → Given m parents leaves body v r p
-given_of body v r p limits shows roads good_parts good_roads =
-    record { shows = shows; road_list = roads; few_vertices = limits.vertices; few_parts = limits.parts; good_parts = good_parts; good_roads = good_roads }
+given_of body v r p few_vertices few_parts shows roads good_parts good_roads =
+    record { shows = shows; road_list = roads; few_vertices = few_vertices; few_parts = few_parts; good_parts = good_parts; good_roads = good_roads }
 
 pub borders_known : {m : Map} {parents leaves body : List ℕ} {v r p : ℕ} (given : Given m parents leaves body v r p) (sizes : List ℕ) {fit yes : Bool} → Sizes m sizes
     → fit ≡ each_from (few_at sizes) 0 p → fit ≡ yes → borders_fit m ≡ yes

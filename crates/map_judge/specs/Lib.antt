@@ -1,4 +1,3 @@
--- The counts that the functions are given, the words that the sizes ask for, and what judging a map gives.
-pub mod Bodies
+-- The words that the sizes ask for, and what judging a map gives.
 pub mod Need
 pub mod Verdict

@@ -2,165 +2,132 @@
 // bytes are judged, with arrays of the function's own.
 #![tactic(auto)]
 
-ghost use Rattle.std.specs.Prelude.{◌≡◌, ℕ, ◌<◌, ◌≤◌, length};
+ghost use Rattle.std.specs.Prelude.{◌≡◌, ℕ, ◌<◌, ◌≤◌, Err, IfErr, IfOk, length, slice_index, EachIndex, sum_by};
 ghost use Rattle.words.specs.Lists.{word};
 ghost use Rattle.roads.specs.Map.{Map};
-ghost use Rattle.maps.specs.Bytes.{counts_of, decode, roads_of};
+ghost use Rattle.maps.specs.Bytes.{counts_of, roads_of};
 ghost use Rattle.maps.specs.Judge.{rest_fits, judge};
+ghost use Rattle.map_parts.specs.Bodies.{the_counts, Limited};
 ghost use Rattle.map_parts.specs.Part.{ShowsPartsOf};
-ghost use Rattle.map_judge.specs.Bodies.{the_counts, leaves_body, roads_body, Limited};
-ghost use Rattle.map_judge.specs.Need.{need_of};
-ghost use Rattle.map_judge.specs.Verdict.{said, due, ruled};
+ghost use Rattle.map_judge.specs.Need.{size_words, need_of};
+ghost use Rattle.map_judge.specs.Verdict.{said, due, ruled, CountsShown};
 
-use answers::Reply;
+use answers::Refusal;
 use counts::Counts;
-use map_borders::{measure, sizes_fit};
-use map_bytes::{copy_numbers, is_record, number2, rest};
-use map_parts::parts_fit;
+use map_borders::measure;
+use map_bytes::{is_record, number2};
+use map_parts::ShownMap;
 use map_roads::roads_fit;
 
 const HEAD_WORDS: u32 = 64;
 
 const VANS: u32 = 1024;
 
+// A map that keeps every rule: its counts, and the words of memory that it needs.
 #[derive(Clone, Copy)]
-pub enum Judgement {
-    // The map keeps every rule: its counts, and the words of memory that it needs.
-    Sound(Counts, u32),
-    // One of refusals 1 to 4.
-    Refused(Reply),
+pub struct Sound {
+    pub counts: Counts,
+    pub need: u32,
 }
 
 // The counts that record 1 shows.
+#[tactic(auto, unfolding(maps::specs::Bytes::counts_of))]
 fn counts_of(map: &[u8]) -> Counts
     ensures { (the_counts result.vertices result.roads result.parts ≡ counts_of map.now) × (result.vertices < 65536) × (result.roads < 65536) × (result.parts < 65536) }
 {
-    let vertices = number2(map, 6);
-    let roads = number2(map, 8);
-    let parts = number2(map, 10);
     Counts {
-        vertices,
-        roads,
-        parts,
+        vertices: number2(map, 6),
+        roads: number2(map, 8),
+        parts: number2(map, 10),
     }
 }
 
 // Records 2, 3 and 4 have the lengths that the counts ask for, and nothing follows.
+#[tactic(auto, unfolding(maps::specs::Judge::rest_fits))]
 fn records_fit(map: &[u8], counts: Counts) -> bool
     requires { (counts.vertices < 65536) × (counts.roads < 65536) × (counts.parts < 65536) }
     ensures { result ≡ rest_fits map.now (the_counts counts.vertices counts.roads counts.parts) }
 {
-    let vertices = counts.vertices;
-    let roads = counts.roads;
-    let parts = counts.parts;
-    let length2 = 2 + 2 * parts;
-    let length3 = 2 + 2 * vertices;
-    let length4 = 2 + 8 * roads;
+    let length2 = 2 + 2 * counts.parts;
+    let length3 = 2 + 2 * counts.vertices;
+    let length4 = 2 + 8 * counts.roads;
     let start3 = 16 + length2;
     let start4 = start3 + 4 + length3;
-    if !is_record(map, 12, 2, length2) {
-        return false;
-    }
-    if !is_record(map, start3, 3, length3) {
-        return false;
-    }
-    if !is_record(map, start4, 4, length4) {
-        return false;
-    }
-    map.len() == (start4 + 4 + length4) as usize
+    is_record(map, 12, 2, length2)
+        && is_record(map, start3, 3, length3)
+        && is_record(map, start4, 4, length4)
+        && map.len() == (start4 + 4 + length4) as usize
 }
 
-// Where the bodies of records 3 and 4 start.
-fn leaves_at(counts: Counts) -> usize
-    requires { counts.parts < 65536 }
-    ensures { result ≡ leaves_body (the_counts counts.vertices counts.roads counts.parts) }
+// The counts of a map whose records have the lengths that they ask for.
+fn shown_counts(map: &[u8]) -> Result<Counts, Refusal>
+    ensures shown { IfOk result (λ counts. CountsShown map.now counts) }
+    ensures refused { IfErr result (λ refusal. said (Err refusal) ≡ due (judge map.now)) }
 {
-    24 + 2 * (counts.parts as usize)
+    if !is_record(map, 0, 1, 8) {
+        return Err(Refusal::MapRecord);
+    }
+    let counts = counts_of(map);
+    if !counts.fit() {
+        return Err(Refusal::MapCounts);
+    }
+    if !records_fit(map, counts) {
+        return Err(Refusal::MapRecord);
+    }
+    Ok(counts)
 }
 
-fn roads_at(counts: Counts) -> usize
-    requires { (counts.vertices < 65536) × (counts.parts < 65536) }
-    ensures { result ≡ roads_body (the_counts counts.vertices counts.roads counts.parts) }
+// The words of the distance table and of the rows of a part with so many rows.
+fn part_words(size: u32) -> u32
+    requires { size ≤ 128 }
+    ensures { (result ≡ size_words size) × (result ≤ 16896) }
 {
-    30 + 2 * (counts.parts as usize) + 2 * (counts.vertices as usize)
+    size * size + 4 * size
+}
+
+// The words of all parts with so many rows.
+fn table_words(sizes: &[u32]) -> u32
+    requires { (length sizes.now ≤ 512) × EachIndex sizes.now (λ p. slice_index sizes.now p ≤ 128) }
+    ensures { result ≡ sum_by size_words sizes.now }
+{
+    sizes.iter().map(|size| part_words(*size)).sum()
 }
 
 // The words of memory that a map with these counts and so many rows in each part needs.
 fn need(counts: Counts, sizes: &[u32; 512]) -> u32
-    requires { Limited (the_counts counts.vertices counts.roads counts.parts) × (length sizes.now ≡ 512) × ((p : ℕ) → p < counts.parts → word sizes.now p ≤ 128) }
+    requires { Limited (the_counts counts.vertices counts.roads counts.parts) × ((p : ℕ) → p < counts.parts → word sizes.now p ≤ 128) }
     ensures { result ≡ need_of (the_counts counts.vertices counts.roads counts.parts) sizes.now }
 {
-    let vertices = counts.vertices;
-    let roads = counts.roads;
-    let parts = counts.parts;
-    let mut words = HEAD_WORDS + 8 * (parts + vertices) + 4 * roads + 8 * VANS;
-    let mut p: u32 = 0;
-    while p < parts {
-        let size = sizes[p as usize];
-        words += size * size + 4 * size;
-        p += 1;
-    }
-    words
+    let tables = table_words(&sizes[..counts.parts as usize]);
+    HEAD_WORDS + 8 * (counts.parts + counts.vertices) + 4 * counts.roads + 8 * VANS + tables
 }
 
-// The judgement by the rules of the map with these parents, leaves and roads.
-fn judge_rules(parents: &[u32], leaves: &[u32], body: &[u8], counts: Counts) -> Judgement
-    requires { Limited (the_counts counts.vertices counts.roads counts.parts) }
-    ensures { (m : Map) → ShowsPartsOf m parents.now leaves.now counts.vertices counts.parts → m.roads ≡ roads_of counts.roads body.now → said result ≡ ruled m }
+// The judgement by the rules of the map that is shown.
+fn judge_rules(shown: &ShownMap) -> Result<Sound, Refusal>
+    requires { 1 ≤ shown.now.counts.parts }
+    ensures { (m : Map) → ShowsPartsOf m shown.now.parents shown.now.leaves shown.now.counts.vertices shown.now.counts.parts → m.roads ≡ roads_of shown.now.counts.roads shown.now.body.now → said result ≡ ruled m }
 {
-    let vertices = counts.vertices;
-    let roads = counts.roads;
-    let parts = counts.parts;
-    if !parts_fit(parents, leaves, vertices, parts) {
-        return Judgement::Refused(Reply::MapParts);
+    let counts = shown.counts;
+    if !shown.parts_fit() {
+        return Err(Refusal::MapParts);
     }
-    if !roads_fit(body, vertices, roads) {
-        return Judgement::Refused(Reply::MapRoads);
+    if !roads_fit(shown.body, counts.vertices, counts.roads) {
+        return Err(Refusal::MapRoads);
     }
-    let mut lifts: [u32; 4096] = [65535; 4096];
-    let mut sizes: [u32; 512] = [0; 512];
-    measure(
-        parents, leaves, body, vertices, roads, &mut lifts, &mut sizes,
-    );
-    if !sizes_fit(&sizes, parts) {
-        return Judgement::Refused(Reply::MapParts);
+    let measures = measure(shown);
+    if !measures.fit(counts.parts) {
+        return Err(Refusal::MapParts);
     }
-    Judgement::Sound(counts, need(counts, &sizes))
+    Ok(Sound {
+        counts,
+        need: need(counts, &measures.sizes),
+    })
 }
 
-// The parent of each part and the leaf of each vertex, as the bodies of records 2 and 3 show them.
-fn show_parts(map: &[u8], counts: Counts, parents: &mut [u32; 512], leaves: &mut [u32; 4096])
-    requires { Limited (the_counts counts.vertices counts.roads counts.parts) × (length parents.old ≡ 512) × (length leaves.old ≡ 4096) }
-    ensures { (length parents.new ≡ 512) × (length leaves.new ≡ 4096) × ShowsPartsOf (decode map.now (the_counts counts.vertices counts.roads counts.parts)) parents.new leaves.new counts.vertices counts.parts }
-{
-    copy_numbers(rest(map, 18), counts.parts, parents);
-    copy_numbers(rest(map, leaves_at(counts)), counts.vertices, leaves);
-}
-
-// The judgement of a map whose records have the lengths that its counts ask for.
-fn judge_shown(map: &[u8], counts: Counts) -> Judgement
-    requires { Limited (the_counts counts.vertices counts.roads counts.parts) }
-    ensures { said result ≡ ruled (decode map.now (the_counts counts.vertices counts.roads counts.parts)) }
-{
-    let mut parents: [u32; 512] = [0; 512];
-    let mut leaves: [u32; 4096] = [0; 4096];
-    show_parts(map, counts, &mut parents, &mut leaves);
-    judge_rules(&parents, &leaves, rest(map, roads_at(counts)), counts)
-}
-
-// Whether the bytes show a sound map, with its counts and its need; or the refusal that they get.
-pub fn judge_map(map: &[u8]) -> Judgement
+// The counts and the need of the sound map that the bytes show; or the refusal that they get.
+pub fn judge_map(map: &[u8]) -> Result<Sound, Refusal>
     ensures { said result ≡ due (judge map.now) }
 {
-    if !is_record(map, 0, 1, 8) {
-        return Judgement::Refused(Reply::MapRecord);
-    }
-    let counts = counts_of(map);
-    if !counts.fit() {
-        return Judgement::Refused(Reply::MapCounts);
-    }
-    if !records_fit(map, counts) {
-        return Judgement::Refused(Reply::MapRecord);
-    }
-    judge_shown(map, counts)
+    let counts = shown_counts(map)?;
+    judge_rules(&ShownMap::read(map, counts))
 }

@@ -4,15 +4,16 @@ use mathlib.Core.Path.{◌≡◌, sym, ap, ap₂, ◌∙◌}
 use mathlib.Core.Bool.{Bool, true, false, cond}
 use mathlib.Core.List.{List}
 use Prim.Native.Nat.{ℕ, suc, ◌+◌, ◌-◌, ◌<◌, ◌≤◌}
-use native.Mathlib.Decide.{ℕ_discrete}
+use native.Mathlib.Decide.{ℕ_discrete, dec_lt}
 use native.Mathlib.Omega.{arith}
-use lib.ListN.{length, get_or, set, length-set}
-use lib.Seq.{get_or-set_same, get_or-set_other}
+use lib.ListN.{length, get_or, set, take, length-set}
+use lib.Seq.{get_or-set_same, get_or-set_other, set_out, length-take-le, get_or-take}
 use lib.Dec.{eqb}
 use borrow.Author.Tests.{eq-eqb, ne_eqb}
 use Rattle.words.specs.Limits.{most_parts}
-use Rattle.words.specs.Lists.{count_from, word, keep}
-use Rattle.map_parts.specs.Tally.{tallied, Tallied}
+use Rattle.words.specs.Lists.{count_from, up_to, word, keep}
+use Rattle.words.proofs.Lists.{count_from_below, keep_same}
+use Rattle.map_parts.specs.Tally.{bumped, tallied, Tallied}
 
 -- The loop's state at number i: what is counted and what is left to count make the whole count.
 pub record Counting (numbers : List ℕ) (n i : ℕ) (counts : List ℕ) : Type 0 where
@@ -45,7 +46,7 @@ module _ {numbers : List ℕ} {n : ℕ} where
       }
 
   -- number i is that of a part
-  pub counting_hit : {counts : List ℕ} (i k : ℕ) → Counting numbers n i counts → i < n → k ≡ word numbers i → k < most_parts
+  counting_hit : {counts : List ℕ} (i k : ℕ) → Counting numbers n i counts → i < n → k ≡ word numbers i → k < most_parts
       → Counting numbers n (i + 1) (set counts k (get_or counts k 0 + 1))
   counting_hit {counts} i k s h is part =
       record {
@@ -68,7 +69,7 @@ module _ {numbers : List ℕ} {n : ℕ} where
           omega (arith, get_or-set_other counts k p (get_or counts k 0 + 1) 0 other, s.each p hp, counted numbers n i p h false (ne_eqb _ p (λ e. other (sym e ∙ sym is))))
 
   -- number i is none
-  pub counting_miss : {counts : List ℕ} (i k : ℕ) → Counting numbers n i counts → i < n → k ≡ word numbers i → most_parts ≤ k → Counting numbers n (i + 1) counts
+  counting_miss : {counts : List ℕ} (i k : ℕ) → Counting numbers n i counts → i < n → k ≡ word numbers i → most_parts ≤ k → Counting numbers n (i + 1) counts
   counting_miss {counts} i k s h is none =
       record {
         reached = omega arith;
@@ -76,6 +77,15 @@ module _ {numbers : List ℕ} {n : ℕ} where
         few = λ p. omega (arith, s.few p);
         each = λ p hp. omega (arith, s.each p hp, counted numbers n i p h false (ne_eqb _ p (λ e. absurd (omega arith))));
       }
+
+  -- number i is counted
+  pub counting_step : {counts after : List ℕ} (i k : ℕ) → Counting numbers n i counts → i < n → k ≡ word numbers i → after ≡ bumped counts k → Counting numbers n (i + 1) after
+  unfolding bumped
+  counting_step {counts} i k s h is moved = rw moved (by (dec_lt k most_parts))
+    where
+      by : Dec (k < most_parts) → Counting numbers n (i + 1) (set counts k (get_or counts k 0 + 1))
+      by (yes part) = counting_hit i k s h is part
+      by (no none) = rw (set_out counts k (get_or counts k 0 + 1) (omega (arith, s.room, none))) (counting_miss i k s h is (omega (arith, none)))
 
   pub counting_done : {counts : List ℕ} (i : ℕ) → Counting numbers n i counts → n ≤ i → Tallied numbers n counts
   unfolding tallied
@@ -85,3 +95,22 @@ module _ {numbers : List ℕ} {n : ℕ} where
         few = λ p. omega (arith, s.few p, s.reached);
         each = λ p hp. (let none : n - i ≡ 0 = omega arith in omega (arith, ap (λ (k : ℕ). tallied numbers i k p) none)) ∙ s.each p hp;
       }
+
+-- the counts of a list's first n numbers
+pub tallied_front : {numbers front counts : List ℕ} (n : ℕ) → n ≤ length numbers → front ≡ take n numbers → Tallied front (length front) counts → Tallied numbers n counts
+unfolding tallied
+tallied_front {numbers} {front} {counts} n h is t =
+    record {
+      room = t.room;
+      few = λ p. omega (arith, t.few p, long);
+      each = λ p hp.
+          t.each p hp
+          ∙ ap (λ (k : ℕ). length (keep (λ i. eqb (word front i) p) (count_from 0 k))) long
+          ∙ ap length (keep_same (λ i. eqb (word front i) p) (λ i. eqb (word numbers i) p) (up_to n) (λ i m. ap (λ (k : ℕ). eqb k p) (here i (omega (arith, count_from_below 0 n i m)))));
+    }
+  where
+    long : length front ≡ n
+    long = ap length is ∙ length-take-le n numbers h
+
+    here : (i : ℕ) → i < n → word front i ≡ word numbers i
+    here i less = ap (λ (l : List ℕ). word l i) is ∙ get_or-take n numbers i 0 less

@@ -1,9 +1,7 @@
 use mathlib.Core.Path.{◌≡◌}
+use Prim.Native.Nat.{◌-◌}
 use Rattle.map_borders.specs.Lift.{most_steps, meet}
 use Rattle.map_borders.proofs.common.Given as goal
 
-abbrev pub invariant-loop-left : goal.invariant-loop-left
-invariant-loop-left l = meet l.parents most_steps l.a l.b ≡ meet l.parents l.left l.x l.y
-
-abbrev pub decreases-loop-left : goal.decreases-loop-left
-decreases-loop-left l = l.left
+abbrev pub invariant-loop : goal.invariant-loop
+invariant-loop l = meet l.shown.parents most_steps l.a l.b ≡ meet l.shown.parents (most_steps - l.counter) l.x l.y

@@ -1,9 +1,5 @@
-use Prim.Native.Nat.{◌-◌}
 use Rattle.map_borders.proofs.Marking.{Totalling}
 use Rattle.map_borders.proofs.count_all.Given as goal
 
 abbrev pub invariant-loop-v : goal.invariant-loop-v
-invariant-loop-v l = Totalling l.parents l.leaves l.lifts l.vertices l.initial.counts l.v l.counts
-
-abbrev pub decreases-loop-v : goal.decreases-loop-v
-decreases-loop-v l = l.vertices - l.v
+invariant-loop-v l = Totalling l.shown.parents l.shown.leaves l.lifts l.shown.counts.vertices l.initial.counts l.v l.counts

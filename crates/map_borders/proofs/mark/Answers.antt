@@ -1,13 +1,14 @@
 -- `mark` goes up from the leaf.
 -- Assumes nothing.
+use native.Mathlib.Omega.{arith}
 use Rattle.map_borders.proofs.Marking.{marking_step, marking_stop, marking_end}
 use Rattle.map_borders.proofs.mark.Goals as goal
 
 pub returns-then-part-lift : goal.returns-then-part-lift
-returns-then-part-lift c = marking_stop _ _ c.loop-left.invariant c.if-part-lift.true
+returns-then-part-lift c = marking_stop _ _ c.loop.invariant c.if-part-lift.true
 
-pub loop-left-preserved : goal.loop-left-preserved
-loop-left-preserved c = marking_step _ _ _ c.loop-left.invariant c.loop-left-test.true c.if-part-lift.false c.entry-above.ensures c.bump.ensures
+pub loop-preserved : goal.loop-preserved
+loop-preserved c = marking_step _ _ _ c.loop.invariant (omega arith) c.if-part-lift.false c.parent-part.ensures c.bump.ensures
 
 pub returns : goal.returns
-returns c = marking_end _ _ c.loop-left.invariant c.loop-left-test.false
+returns c = marking_end _ _ c.loop.invariant (omega arith)

@@ -4,15 +4,7 @@ use mathlib.Core.Path.{refl, ◌∙◌}
 use Rattle.map_judge.proofs.Rules.{judge_by}
 use Rattle.map_judge.proofs.judge_map.Goals as goal
 
-pub returns-then-not-is_record : goal.returns-then-not-is_record
-returns-then-not-is_record c = judge_by _ c.is_record.ensures c.if-not-is_record.true refl refl refl refl refl
-
-pub returns-then-not-fit : goal.returns-then-not-fit
-returns-then-not-fit c = judge_by _ c.is_record.ensures c.if-not-is_record.false c.counts_of-counts.ensures.0 c.fit.ensures c.if-not-fit.true refl refl
-
-pub returns-then-not-records_fit : goal.returns-then-not-records_fit
-returns-then-not-records_fit c = judge_by _ c.is_record.ensures c.if-not-is_record.false c.counts_of-counts.ensures.0 c.fit.ensures c.if-not-fit.false c.records_fit.ensures c.if-not-records_fit.true
-
 pub returns : goal.returns
-returns c = c.judge_shown.ensures
-    ∙ judge_by _ c.is_record.ensures c.if-not-is_record.false c.counts_of-counts.ensures.0 c.fit.ensures c.if-not-fit.false c.records_fit.ensures c.if-not-records_fit.false
+returns c =
+    let h = c.in_ok-counts.ensures.shown in
+    c.judge_rules.ensures _ c.read.ensures.parts c.read.ensures.roads ∙ judge_by c.args.map.now refl h.is_first h.shown refl h.fit refl h.rest

@@ -1,11 +1,13 @@
--- `need` sums the words of the sections, part by part.
+-- `need` adds up the words of the sections.
 -- Assumes nothing.
-use mathlib.Core.Path.{refl}
-use Rattle.map_judge.proofs.Needs.{summing_start, summing_step}
+use native.Mathlib.Omega.{arith}
+use Rattle.map_judge.specs.Need.{need_of}
+use Rattle.map_judge.proofs.Needs.{words_sum, words_few}
 use Rattle.map_judge.proofs.need.Goals as goal
 
-pub loop-p-init : goal.loop-p-init
-loop-p-init c = summing_start c.requires.0 c.requires.1 c.requires.2 refl
+pub overflow_add-result-5 : goal.overflow_add-result-5
+overflow_add-result-5 c = omega (arith, c.table_words-tables.ensures, words_few c.args.sizes.now c.args.counts.parts (omega arith) c.requires.1)
 
-pub loop-p-preserved : goal.loop-p-preserved
-loop-p-preserved c = summing_step _ c.loop-p.invariant c.loop-p-test.true
+pub returns : goal.returns
+unfolding need_of
+returns c = omega (arith, c.table_words-tables.ensures, words_sum c.args.sizes.now c.args.counts.parts (omega arith))

@@ -1,18 +1,20 @@
 -- `tally` counts how often each number comes.
 -- Assumes nothing.
-use Rattle.map_parts.proofs.Counting.{counting_hit, counting_miss, counting_done}
+use mathlib.Core.Path.{refl}
+use native.Mathlib.Omega.{arith}
+use Rattle.words.specs.Limits.{most_parts}
+use Rattle.words.proofs.Lists.{all_same}
+use Rattle.map_parts.proofs.Counting.{counting_start, counting_step, counting_done}
 use Rattle.map_parts.proofs.tally.Goals as goal
-use Rattle.map_parts.proofs.tally.Goals.{then-p-lt-MOST_PARTS, else-p-lt-MOST_PARTS}
 
-pub loop-i-preserved : goal.loop-i-preserved
-loop-i-preserved c =
-    let l = c.loop-i in
-    let more = c.loop-i-test.true in
-    let is = c.entry-p.ensures in
-    elim c.if-p-lt-MOST_PARTS.branch [
-      | then-p-lt-MOST_PARTS w ↦ rw w.counts-is (counting_hit _ _ l.invariant more is w.if-p-lt-MOST_PARTS.true)
-      | else-p-lt-MOST_PARTS w ↦ rw w.counts-is (counting_miss _ _ l.invariant more is w.if-p-lt-MOST_PARTS.false)
-    ]
+pub loop-p-init : goal.loop-p-init
+loop-p-init c = counting_start refl (λ p. all_same most_parts p 0)
+
+pub bump-requires : goal.bump-requires
+bump-requires c = λ q. omega (arith, c.loop-p.invariant.few q)
+
+pub loop-p-preserved : goal.loop-p-preserved
+loop-p-preserved c = counting_step _ _ c.loop-p.invariant (omega arith) refl c.bump.ensures
 
 pub returns : goal.returns
-returns c = counting_done _ c.loop-i.invariant c.loop-i-test.false
+returns c = counting_done _ c.loop-p.invariant (omega arith)

@@ -1,9 +1,0 @@
--- `number_at` is number i.
--- Assumes nothing.
-use Rattle.maps.specs.Bytes.{number_at}
-use borrow.Author.Rules.{rules}
-use Rattle.map_bytes.proofs.number_at.Goals as goal
-
-pub returns : goal.returns
-unfolding number_at
-returns c = c.number2.ensures.0

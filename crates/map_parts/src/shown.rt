@@ -1,0 +1,60 @@
+// The map that bytes show by the counts of record 1.
+ghost use Rattle.std.specs.Prelude.{◌≡◌, ◌≤◌};
+ghost use Rattle.words.specs.Limits.{most_vertices, most_roads, most_parts};
+ghost use Rattle.words.specs.Lists.{word};
+ghost use Rattle.maps.specs.Bytes.{roads_of, decode};
+ghost use Rattle.map_parts.specs.Bodies.{the_counts};
+ghost use Rattle.map_parts.specs.Part.{ShowsPartsOf};
+
+use cells::word;
+use counts::Counts;
+use map_bytes::{copy_numbers, rest};
+
+// The counts are within their limits.
+#[derive(Drop)]
+pub struct ShownMap<'a> {
+    pub counts: Counts,
+    // The parent of each part.
+    pub parents: [u32; 512],
+    // The leaf of each vertex.
+    pub leaves: [u32; 4096],
+    // The body of record 4.
+    pub body: &'a [u8],
+    pub ghost few_vertices: { counts.vertices ≤ most_vertices },
+    pub ghost few_roads: { counts.roads ≤ most_roads },
+    pub ghost few_parts: { counts.parts ≤ most_parts },
+}
+
+impl<'a> ShownMap<'a> {
+    pub fn read(map: &'a [u8], counts: Counts) -> Self
+        requires { (counts.vertices ≤ most_vertices) × (counts.roads ≤ most_roads) × (counts.parts ≤ most_parts) }
+        ensures counts { result.counts ≡ counts }
+        ensures parts { ShowsPartsOf (decode map.now (the_counts counts.vertices counts.roads counts.parts)) result.parents result.leaves result.counts.vertices result.counts.parts }
+        ensures roads { (decode map.now (the_counts counts.vertices counts.roads counts.parts)).roads ≡ roads_of result.counts.roads result.body.now }
+    {
+        let mut parents: [u32; 512] = [0; 512];
+        copy_numbers(rest(map, 18), counts.parts, &mut parents);
+        let leaves_at = 24 + 2 * (counts.parts as usize);
+        let mut leaves: [u32; 4096] = [0; 4096];
+        copy_numbers(rest(map, leaves_at), counts.vertices, &mut leaves);
+        let roads_at = leaves_at + 6 + 2 * (counts.vertices as usize);
+        Self {
+            counts,
+            parents,
+            leaves,
+            body: rest(map, roads_at),
+        }
+    }
+
+    pub fn parent(&self, p: u32) -> u32
+        ensures { result ≡ word self.now.parents p }
+    {
+        word(&self.parents, p as usize)
+    }
+
+    pub fn leaf(&self, v: u32) -> u32
+        ensures { result ≡ word self.now.leaves v }
+    {
+        word(&self.leaves, v as usize)
+    }
+}
