@@ -19,7 +19,7 @@ use Rattle.roads.specs.Map.{Map}
 use Rattle.parts.specs.Size.{need}
 use Rattle.fleet.specs.State.{State}
 use Rattle.fleet.specs.declared.Change.{Change}
-use Rattle.fleet.specs.Change.{Answer, refused, number_of, value_of}
+use Rattle.fleet.specs.Change.{Answer, refused, accepted, number_of, value_of}
 use Rattle.fleet.specs.Question.{Listed, listed_words, coming_from, sorted, nearest, question_in_range, Response, list_into, reply_by, reply}
 use Rattle.image.specs.Image.{image}
 use Rattle.calls.specs.Head.{Shows}
@@ -109,59 +109,55 @@ module _ (m : Map) (s : State) (x k : ℕ) (words : List ℕ) (room : length wor
   list_few h = omega (arith, length-take k (sorted (coming_from m x 0 s.vans)))
 
   -- an accepted question's list, and a refused one's line
-  question_listed : (place : ℕ) {answer : Answer} {words' : List ℕ} → answer ≡ (reply m s x k words).answer → words' ≡ (reply m s x k words).words → number_of answer ≡ 0
-      → list_lines place (value_of answer) words' (min (value_of answer) most_asked) ≡ question_lines m s place x k
+  question_listed : (place : ℕ) {value : ℕ} {words' : List ℕ} → accepted value ≡ (reply m s x k words).answer → words' ≡ (reply m s x k words).words
+      → list_lines place value words' (min value most_asked) ≡ question_lines m s place x k
   unfolding list_into
-  question_listed place {answer} {words'} isAnswer isWords zero' =
+  question_listed place {value} {words'} isAnswer isWords =
       ⊎_elim
       (λ fits.
       let found = nearest m s x k in
       let by = in_range_lem fits in
-      let value : value_of answer ≡ length found = ap value_of (isAnswer ∙ ap (λ (r : Response). r.answer) by.0) in
+      let count : value ≡ length found = ap value_of (isAnswer ∙ ap (λ (r : Response). r.answer) by.0) in
       let shown : words' ≡ gather listed_words found ++ drop (3 * length found) words = isWords ∙ ap (λ (r : Response). r.words) by.0 in
-      let all : min (value_of answer) most_asked ≡ length found = omega (arith, value, list_few by.1) in
-      (λ i. list_lines place (value i) (shown i) (all i))
+      let all : min value most_asked ≡ length found = omega (arith, count, list_few by.1) in
+      (λ i. list_lines place (count i) (shown i) (all i))
       ∙ ap (λ (l : List Line). Length place (length found) ∷ l) (lines_shown place found (drop (3 * length found) words) (length found) (omega arith))
       ∙ ap (λ (l : List Listed). Length place (length found) ∷ map (van_line place) l) (take_all (length found) found (omega arith))
       ∙ sym (lines_in place fits))
-      (λ shut. absurd (let seven : number_of answer ≡ 7 = ap number_of (isAnswer ∙ out_of_range_lem shut) in omega (arith, seven, zero')))
+      (λ shut. absurd (let clash : accepted value ≡ refused 7 = isAnswer ∙ out_of_range_lem shut in cc))
       (true_or_false (question_in_range m.vertices x k))
 
-  question_refused : (place : ℕ) {answer : Answer} → answer ≡ (reply m s x k words).answer → (number_of answer ≡ 0 → ⊥) → No place (number_of answer) ∷ [] ≡ question_lines m s place x k
+  question_refused : (place : ℕ) {number : ℕ} → refused number ≡ (reply m s x k words).answer → No place number ∷ [] ≡ question_lines m s place x k
   unfolding list_into
-  question_refused place {answer} isAnswer some =
+  question_refused place {number} isAnswer =
       ⊎_elim
-      (λ fits. absurd (some (ap number_of (isAnswer ∙ ap (λ (r : Response). r.answer) (in_range_lem fits).0))))
+      (λ fits. absurd (let clash : refused number ≡ accepted (length (nearest m s x k)) = isAnswer ∙ ap (λ (r : Response). r.answer) (in_range_lem fits).0 in cc))
       (λ shut. ap (λ (n : ℕ). No place n ∷ []) (ap number_of (isAnswer ∙ out_of_range_lem shut)) ∙ sym (lines_out place shut))
       (true_or_false (question_in_range m.vertices x k))
 
 kept : (m : Map) (s : State) {mem : List ℕ} → Shows m s mem → mem ≡ image m s ++ drop (need m) mem
 kept m s {mem} shows = sym (take-append-drop (need m) mem) ∙ ap (λ (l : List ℕ). l ++ drop (need m) mem) shows.words
 
-module _ {place at end : ℕ} {mem out out' : List ℕ} (x k : ℕ) {words words' : List ℕ} {answer : Answer} (asked : Asked mem x k words answer words') (room : length words ≡ answer_words) where
-  pub served_list : {number value : ℕ} → number ≡ number_of answer → value ≡ value_of answer → number ≡ 0
+module _ {place at end : ℕ} {mem out out' : List ℕ} (x k : ℕ) {words words' : List ℕ} (room : length words ≡ answer_words) where
+  pub served_list : (value : ℕ) → Asked mem x k words (accepted value) words'
       → Wrote out at (gather text_of (list_lines place value words' (min value most_asked))) end out' → Served (Asks x k) place mem mem out at end out'
-  served_list {number} {value} is_number is_value none w =
+  served_list value asked w =
       record {
         lines = list_lines place value words' (min value most_asked);
         few = omega (arith, vans_length place words' (min value most_asked));
         wrote = w;
-        genuine = λ m s shows.
-            let told = asked.genuine m s shows in (
-              ap (λ (v : ℕ). list_lines place v words' (min v most_asked)) is_value ∙ question_listed m s x k words room place told.0 told.1 (sym is_number ∙ none),
-              kept m s shows,
-            );
+        genuine = λ m s shows. let told = asked.genuine m s shows in (question_listed m s x k words room place told.0 told.1, kept m s shows);
       }
 
-  pub served_refused : {number : ℕ} (line : Line) → number ≡ number_of answer → (number ≡ 0 → ⊥) → line ≡ No place number
+  pub served_refused : {number : ℕ} (line : Line) {answer : Answer} → Asked mem x k words answer words' → answer ≡ refused number → line ≡ change_line place answer
       → Wrote out at (text_of line) end out' → Served (Asks x k) place mem mem out at end out'
-  served_refused {number} line is_number some e w =
+  served_refused {number} line {answer} asked is e w =
       record {
         lines = line ∷ [];
         few = omega arith;
         wrote = wrote_line line w;
         genuine = λ m s shows. (
-          (λ i. e i ∷ []) ∙ (λ i. No place (is_number i) ∷ []) ∙ question_refused m s x k words room place (asked.genuine m s shows).0 (λ z. some (is_number ∙ z)),
+          ap (λ (l : Line). l ∷ []) (e ∙ ap (change_line place) is) ∙ question_refused m s x k words room place (sym is ∙ (asked.genuine m s shows).0),
           kept m s shows,
         );
       }

@@ -10,7 +10,7 @@ ghost use Rattle.calls.specs.Outcome.{Changed};
 ghost use Rattle.desk_lines.specs.Desk.{change_line, van_line};
 ghost use Rattle.desk_calls.specs.Listed.{listed_at};
 
-use answers::Reply;
+use answers::{Refusal, Reply};
 use cells::word;
 use desk_lines::Line;
 use fleet::Change;
@@ -42,13 +42,16 @@ pub fn make_change(memory: &mut [u32], change: Change) -> Reply
 pub fn change_line(place: u32, reply: Reply) -> Line
     ensures { result ≡ change_line place (answered reply) }
 {
-    let number = reply.number();
-    if number == 0 {
-        return Line::Ok {
-            place,
-            stamp: reply.value(),
-        };
+    match reply {
+        Ok(stamp) => Line::Ok { place, stamp },
+        Err(refusal) => refused_line(place, refusal),
     }
+}
+
+fn refused_line(place: u32, refusal: Refusal) -> Line
+    ensures { result ≡ change_line place (answered (Err refusal)) }
+{
+    let number = refusal.number();
     Line::No { place, number }
 }
 

@@ -8,40 +8,24 @@ ghost use Rattle.desk_lines.specs.Written.{Wrote};
 ghost use Rattle.desk_calls.specs.Listed.{list_lines};
 ghost use Rattle.desk_calls.specs.Served.{answer_words, most_buffer, Served};
 
-use super::{change_line, make_change, van_line};
+use super::{change_line, make_change, refused_line, van_line};
 use desk_lines::{Call, Line, write_line};
 
 // Vans that a question lists at most.
 const MOST_LISTED: u32 = 32;
 
-// How many vans of a list the answer words show.
-fn shown_vans(count: u32) -> usize
-    ensures { result ≡ min count most_asked }
-{
-    if count < MOST_LISTED {
-        return count as usize;
-    }
-    MOST_LISTED as usize
-}
-
-// The list's length, and a line for each van.
+// The list's length, and a line for each van that the answer words show.
 fn list(answer: &[u32], out: &mut [u8], at: usize, place: u32, count: u32) -> usize
     requires { at ≤ most_buffer }
     ensures { Wrote out.old at (gather text_of (list_lines place count answer.now (min count most_asked))) result out.new }
 {
-    let vans = shown_vans(count);
-    let mut end = write_line(
-        out,
-        at,
-        Line::Length {
-            place,
-            length: count,
-        },
-    );
-    let mut i: usize = 0;
-    while i < vans {
+    let length = Line::Length {
+        place,
+        length: count,
+    };
+    let mut end = write_line(out, at, length);
+    for i in 0..count.min(MOST_LISTED) as usize {
         end = write_line(out, end, van_line(place, answer, i));
-        i += 1;
     }
     end
 }
@@ -58,12 +42,10 @@ fn question(
     requires { (at ≤ most_buffer) × (length answer.old ≡ answer_words) }
     ensures { Served (Asks vertex k) place memory.now memory.now out.old at result out.new }
 {
-    let reply = hailtrellis::question(memory, vertex, k, answer);
-    let number = reply.number();
-    if number == 0 {
-        return list(answer, out, at, place, reply.value());
+    match hailtrellis::question(memory, vertex, k, answer) {
+        Ok(count) => list(answer, out, at, place, count),
+        Err(refusal) => write_line(out, at, refused_line(place, refusal)),
     }
-    write_line(out, at, Line::No { place, number })
 }
 
 // The call at `place`; where its lines end.

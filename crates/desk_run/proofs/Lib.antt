@@ -1,4 +1,3 @@
 pub mod Moving
-pub mod Windows
 pub mod Plans
 pub mod Transcript

@@ -4,6 +4,7 @@ use mathlib.Core.Path.{◌≡◌, refl, sym, ap, ◌∙◌, subst, subst⁻¹}
 use mathlib.Core.Logic.{◌⊎◌, inl, inr, ⊎_elim}
 use mathlib.Core.Bool.{Bool, true, false, cond}
 use mathlib.Core.List.{List, [], ◌++◌, append_assoc, append-nil}
+use Rattle.std.specs.Prelude.{Option, unwrap_or, is_none}
 use Prim.Native.Nat.{ℕ, ◌+◌, ◌-◌, ◌≤◌, ◌<◌}
 use native.Mathlib.Decide.{dec_lt}
 use native.Mathlib.Omega.{arith}
@@ -76,10 +77,13 @@ module _ (unread window window' window'' : List ℕ) (s : Desk) (count : ℕ) (p
 -- A step.
 
 module _ (input unread written window memory memory' out out' : List ℕ) (s : Desk) (step : Step) (f : Faithful input unread written window memory out s) where
-  new_bytes : step.taken ≤ length (bytes_left s window) → drop step.taken (bytes_left s window ++ unread) ≡ bytes_left (after_step s step) window ++ unread
+  abbrev taken_now : ℕ
+  taken_now = unwrap_or step.taken 0
+
+  new_bytes : taken_now ≤ length (bytes_left s window) → drop taken_now (bytes_left s window ++ unread) ≡ bytes_left (after_step s step) window ++ unread
   new_bytes h =
-      drop-append-le step.taken (bytes_left s window) unread h
-      ∙ ap (λ (l : List ℕ). l ++ unread) (sym (part_left s.from s.to step.taken window))
+      drop-append-le taken_now (bytes_left s window) unread h
+      ∙ ap (λ (l : List ℕ). l ++ unread) (sym (part_left s.from s.to taken_now window))
 
   new_total : (lines more : List Line) → Wrote out s.out (gather text_of lines) step.end out' → step.end ≤ length out
       → desk_text input ≡ (written ++ take s.out out) ++ gather text_of (lines ++ more) → desk_text input ≡ (written ++ take step.end out') ++ gather text_of more
@@ -90,7 +94,7 @@ module _ (input unread written window memory memory' out out' : List ℕ) (s : D
       ∙ ap (λ (l : List ℕ). l ++ gather text_of more) (append_assoc written (take s.out out) (gather text_of lines) ∙ ap (λ (l : List ℕ). written ++ l) (sym (wrote_shown w room)))
 
   advance : (lines : List Line) (sequel : Sequel) → Wrote out s.out (gather text_of lines) step.end out' → Leads sequel step memory memory'
-      → step.taken ≤ length (bytes_left s window) → step.end ≤ length out → (step.over ≡ false → s.place ≤ most_calls)
+      → taken_now ≤ length (bytes_left s window) → step.end ≤ length out → (is_none step.taken ≡ false → s.place ≤ most_calls)
       → desk_text input ≡ (written ++ take s.out out) ++ gather text_of (lines ++ lines_to (s.place + 1) sequel (bytes_left s window ++ unread))
       → Faithful input unread written window memory' out' (after_step s step)
   unfolding lines_to
@@ -102,7 +106,7 @@ module _ (input unread written window memory memory' out out' : List ℕ) (s : D
         ends = f.ends;
         rest = [];
         total = new_total lines [] w room e;
-        to_come = done l.0 refl;
+        to_come = done (ap is_none l.0) refl;
       }
   advance lines (goes_on m st taken) w l there room fits e =
       record {
@@ -112,8 +116,8 @@ module _ (input unread written window memory memory' out out' : List ℕ) (s : D
         ends = f.ends;
         rest = gather text_of (serve (calls_left (s.place + 1)) m st (s.place + 1) (drop taken (bytes_left s window ++ unread)));
         total = new_total lines (serve (calls_left (s.place + 1)) m st (s.place + 1) (drop taken (bytes_left s window ++ unread))) w room e;
-        to_come = calling m st l.0 (omega arith) (omega (arith, fits l.0)) l.2
-            (ap (λ (b : List ℕ). gather text_of (serve (calls_left (s.place + 1)) m st (s.place + 1) b)) (ap (λ (n : ℕ). drop n (bytes_left s window ++ unread)) (sym l.1) ∙ new_bytes there));
+        to_come = calling m st (ap is_none l.0) (omega arith) (omega (arith, fits (ap is_none l.0))) l.1
+            (ap (λ (b : List ℕ). gather text_of (serve (calls_left (s.place + 1)) m st (s.place + 1) b)) (ap (λ (n : ℕ). drop n (bytes_left s window ++ unread)) (sym (ap (λ (t : Option ℕ). unwrap_or t 0) l.0)) ∙ new_bytes there));
       }
 
   shown_size : length (bytes_left s window) ≡ s.to - s.from
@@ -164,7 +168,7 @@ module _ (input unread written window memory memory' out out' : List ℕ) (s : D
       goes.follows
       turn.there
       turn.room
-      (λ over. ⊎_elim (λ late. absurd (clash (turn.ends late) over)) (λ early. early) (before_or_after s.place))
+      (λ over. ⊎_elim (λ late. absurd (clash (ap is_none (turn.ends late)) over)) (λ early. early) (before_or_after s.place))
       (f.total
       ∙ ap (λ (l : List ℕ). (written ++ take s.out out) ++ l)
       (t ∙ ap (gather text_of) (turn_lines m st s.place (bytes_left s window ++ unread) few)

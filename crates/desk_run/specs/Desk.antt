@@ -1,5 +1,5 @@
 -- What each function of the library does to where the program stands.
-use Rattle.std.specs.Prelude.{◌≡◌, ◌⊎◌, true, false, cond, List, ℕ, ◌+◌, ◌-◌, ◌≤◌, length, take, drop, ltb, eqb}
+use Rattle.std.specs.Prelude.{◌≡◌, ◌⊎◌, true, false, cond, List, ℕ, ◌+◌, ◌-◌, ◌≤◌, length, take, drop, ltb, eqb, unwrap_or, is_none}
 use Rattle.desk_lines.specs.Read.{map_room, opening_bytes, longest_call}
 use Rattle.desk_lines.specs.Desk.{most_calls}
 use Rattle.desk_steps.specs.declared.Step.{Step}
@@ -45,17 +45,17 @@ pub record PackedLeft (window : List ℕ) (s : Desk) (window' : List ℕ) : Type
   pub same : take (s.to - s.from) window' ≡ bytes_left s window
 
 abbrev pub packed_desk : Desk → Desk
-packed_desk s = record { from = 0; to = s.to - s.from; out = s.out; place = s.place; ended = s.ended; over = s.over }
+packed_desk s = record s { from = 0; to = s.to - s.from }
 
 -- so many bytes more, in a window of `size` bytes
 abbrev pub filled_desk : Desk → ℕ → ℕ → Desk
-filled_desk s count size = record { from = s.from; to = s.to + count; out = s.out; place = s.place; ended = ltb count (size - s.to); over = s.over }
+filled_desk s count size = record s { to = s.to + count; ended = ltb count (size - s.to) }
 
 abbrev pub emptied_desk : Desk → Desk
-emptied_desk s = record { from = s.from; to = s.to; out = 0; place = s.place; ended = s.ended; over = s.over }
+emptied_desk s = record s { out = 0 }
 
 abbrev pub after_step : Desk → Step → Desk
-after_step s step = record { from = s.from + step.taken; to = s.to; out = step.end; place = s.place + 1; ended = s.ended; over = step.over }
+after_step s step = record s { from = s.from + unwrap_or step.taken 0; out = step.end; place = s.place + 1; over = is_none step.taken }
 
 -- a step is the opening, or the next call, on what the window shows
 pub record NextStep (window : List ℕ) (s r : Desk) (mem mem' out out' : List ℕ) : Type 0 where

@@ -3,7 +3,7 @@
 // (proofs/Transcript).
 #![tactic(auto)]
 
-ghost use Rattle.std.specs.Prelude.{◌≡◌, false, ◌+◌, ◌≤◌, length};
+ghost use Rattle.std.specs.Prelude.{◌≡◌, false, ◌+◌, ◌≤◌, length, unwrap_or};
 ghost use Rattle.desk_lines.specs.Desk.{memory_room, most_calls};
 ghost use Rattle.desk_calls.specs.Served.{answer_words, most_buffer};
 ghost use Rattle.desk_steps.specs.Step.{Room};
@@ -27,136 +27,103 @@ pub struct Desk {
     pub over: bool,
 }
 
-// Nothing is read and nothing is written.
-pub fn fresh() -> Desk
-    ensures { result ≡ fresh_desk }
-{
-    Desk {
-        from: 0,
-        to: 0,
-        out: 0,
-        place: 0,
-        ended: false,
-        over: false,
-    }
-}
-
 // Bytes that show all that the step at `place` looks at.
 fn needed(place: u32) -> usize
     ensures { result ≡ needed_at place }
 {
     if place == 0 {
-        return MAP_ROOM + OPENING_BYTES;
-    }
-    LONGEST_CALL
-}
-
-// Whether the window must be filled before the next step.
-pub fn hungry(s: Desk) -> bool
-    requires { s.from ≤ s.to }
-    ensures { result ≡ false → Fed s }
-{
-    let from = s.from;
-    let to = s.to;
-    let ended = s.ended;
-    if ended {
-        return false;
-    }
-    if to - from < needed(s.place) {
-        return true;
-    }
-    false
-}
-
-// Moves what is left in the window to its start, so that there is room to read on.
-pub fn packed(window: &mut [u8], s: Desk) -> Desk
-    requires { (s.from ≤ s.to) × (s.to ≤ length window.old) }
-    ensures { PackedLeft window.old s window.new × (result ≡ packed_desk s) }
-{
-    let from = s.from;
-    let left = s.to - from;
-    let mut at: usize = 0;
-    while at < left {
-        window[at] = window[from + at];
-        at += 1;
-    }
-    Desk {
-        from: 0,
-        to: left,
-        out: s.out,
-        place: s.place,
-        ended: s.ended,
-        over: s.over,
+        MAP_ROOM + OPENING_BYTES
+    } else {
+        LONGEST_CALL
     }
 }
 
-// So many bytes were read into the window after those that were there. Where that is fewer than there was room for, the input has ended.
-pub fn filled(window: &[u8], s: Desk, count: usize) -> Desk
-    requires { s.to + count ≤ length window.now }
-    ensures { result ≡ filled_desk s count (length window.now) }
-{
-    let to = s.to;
-    Desk {
-        from: s.from,
-        to: to + count,
-        out: s.out,
-        place: s.place,
-        ended: count < window.len() - to,
-        over: s.over,
+impl Desk {
+    // Nothing is read and nothing is written.
+    pub fn fresh() -> Desk
+        ensures { result ≡ fresh_desk }
+    {
+        Desk {
+            from: 0,
+            to: 0,
+            out: 0,
+            place: 0,
+            ended: false,
+            over: false,
+        }
     }
-}
 
-// Whether the lines that wait must be written before the next step.
-pub fn full(out: &[u8], s: Desk) -> bool
-    requires { (s.out ≤ length out.now) × (length out.now ≤ most_buffer) }
-    ensures { result ≡ false → Room s.out (length out.now) }
-{
-    if out.len() - s.out < STEP_BYTES {
-        return true;
+    // Whether the window must be filled before the next step.
+    pub fn hungry(self) -> bool
+        requires { self.from ≤ self.to }
+        ensures { result ≡ false → Fed self }
+    {
+        !self.ended && self.to - self.from < needed(self.place)
     }
-    false
-}
 
-// The lines that waited were written.
-pub fn emptied(s: Desk) -> Desk
-    ensures { result ≡ emptied_desk s }
-{
-    Desk {
-        from: s.from,
-        to: s.to,
-        out: 0,
-        place: s.place,
-        ended: s.ended,
-        over: s.over,
+    // Moves what is left in the window to its start, so that there is room to read on.
+    pub fn packed(self, window: &mut [u8]) -> Desk
+        requires { (self.from ≤ self.to) × (self.to ≤ length window.old) }
+        ensures { PackedLeft window.old self window.new × (result ≡ packed_desk self) }
+    {
+        window.copy_within(self.from..self.to, 0);
+        Desk {
+            from: 0,
+            to: self.to - self.from,
+            ..self
+        }
     }
-}
 
-fn after(s: Desk, step: Step) -> Desk
-    requires { (s.from + step.taken ≤ s.to) × (s.place ≤ most_calls + 1) }
-    ensures { result ≡ after_step s step }
-{
-    Desk {
-        from: s.from + step.taken,
-        to: s.to,
-        out: step.end,
-        place: s.place + 1,
-        ended: s.ended,
-        over: step.over,
+    // So many bytes were read into the window after those that were there. Where that is fewer than there was room for, the input has ended.
+    pub fn filled(self, window: &[u8], count: usize) -> Desk
+        requires { self.to + count ≤ length window.now }
+        ensures { result ≡ filled_desk self count (length window.now) }
+    {
+        Desk {
+            to: self.to + count,
+            ended: count < window.len() - self.to,
+            ..self
+        }
     }
-}
 
-// The opening, or the next call.
-pub fn step(window: &[u8], memory: &mut [u32], answer: &mut [u32], out: &mut [u8], s: Desk) -> Desk
-    requires { MayStep s (length window.now) (length out.old) × (length memory.old ≡ memory_room) × (length answer.old ≡ answer_words) }
-    ensures { NextStep window.now s result memory.old memory.new out.old out.new }
-{
-    let from = s.from;
-    let to = s.to;
-    let place = s.place;
-    if place == 0 {
-        let opened = begin(&window[from..to], memory, out);
-        return after(s, opened);
+    // Whether the lines that wait must be written before the next step.
+    pub fn full(self, out: &[u8]) -> bool
+        requires { (self.out ≤ length out.now) × (length out.now ≤ most_buffer) }
+        ensures { result ≡ false → Room self.out (length out.now) }
+    {
+        out.len() - self.out < STEP_BYTES
     }
-    let next = turn(&window[from..to], memory, answer, out, s.out, place);
-    after(s, next)
+
+    // The lines that waited were written.
+    pub fn emptied(self) -> Desk
+        ensures { result ≡ emptied_desk self }
+    {
+        Desk { out: 0, ..self }
+    }
+
+    fn after(self, step: Step) -> Desk
+        requires { (self.from + unwrap_or step.taken 0 ≤ self.to) × (self.place ≤ most_calls + 1) }
+        ensures { result ≡ after_step self step }
+    {
+        Desk {
+            from: self.from + step.taken.unwrap_or(0),
+            out: step.end,
+            place: self.place + 1,
+            over: step.taken.is_none(),
+            ..self
+        }
+    }
+
+    // The opening, or the next call.
+    pub fn step(self, window: &[u8], memory: &mut [u32], answer: &mut [u32], out: &mut [u8]) -> Desk
+        requires { MayStep self (length window.now) (length out.old) × (length memory.old ≡ memory_room) × (length answer.old ≡ answer_words) }
+        ensures { NextStep window.now self result memory.old memory.new out.old out.new }
+    {
+        let left = &window[self.from..self.to];
+        if self.place == 0 {
+            self.after(begin(left, memory, out))
+        } else {
+            self.after(turn(left, memory, answer, out, self.out, self.place))
+        }
+    }
 }

@@ -1,8 +1,8 @@
 -- NextStep that end the program, and how much room the lines of a step take.
 -- Assumes nothing.
 use mathlib.Core.Path.{◌≡◌, refl}
-use mathlib.Core.Bool.{true}
 use mathlib.Core.List.{List, [], ◌∷◌}
+use Rattle.std.specs.Prelude.{None}
 use Prim.Native.Nat.{ℕ, ◌+◌, ◌≤◌}
 use native.Mathlib.Omega.{arith}
 use lib.ListN.{length}
@@ -27,10 +27,7 @@ module _ {out out' : List ℕ} {at end : ℕ} where
 
 module _ {r : Step} {out out₁ out' : List ℕ} {at mid : ℕ} where
   pub closed_two : (first second : Line) → Wrote out at (text_of first) mid out₁ → LastStep (second ∷ []) r out₁ mid out' → LastStep (first ∷ second ∷ []) r out at out'
-  closed_two first second w c = record { wrote = wrote_more w c.wrote; taken = c.taken; over = c.over }
-
-pub closed_line : (line : Line) {out out' : List ℕ} {at end : ℕ} (r : Step) → Wrote out at (text_of line) end out' → r ≡ record { taken = 0; end = end; over = true } → LastStep (line ∷ []) r out at out'
-closed_line line r w e = rw e (record { wrote = wrote_line line w; taken = refl; over = refl })
+  closed_two first second w c = record { wrote = wrote_more w c.wrote; over = c.over }
 
 pub closed_goes : (lines : List Line) {r : Step} {mem mem' out out' : List ℕ} {at : ℕ} → LastStep lines r out at out' → mem' ≡ mem → GoesBy (last_lines lines) r mem mem' out at out'
-closed_goes lines c e = record { wrote = c.wrote; follows = (c.over, c.taken, e) }
+closed_goes lines c e = record { wrote = c.wrote; follows = (c.over, e) }

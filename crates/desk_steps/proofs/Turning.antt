@@ -1,7 +1,8 @@
 -- The step for a call goes by its plan.
 -- Assumes nothing.
 use mathlib.Core.Path.{◌≡◌, refl, sym, ap, ◌∙◌, subst⁻¹}
-use mathlib.Core.Bool.{false, cond}
+use mathlib.Core.Bool.{cond}
+use Rattle.std.specs.Prelude.{Option, Some, None, Ok, Err, unwrap_or}
 use mathlib.Core.List.{List, [], ◌∷◌, ◌++◌}
 use Prim.Native.Nat.{ℕ, ◌-◌, ◌≤◌, ◌<◌}
 use native.Mathlib.Omega.{arith}
@@ -19,11 +20,9 @@ use Rattle.image.proofs.Length.{image_length}
 use Rattle.calls.specs.Head.{Shows}
 use Rattle.desk_lines.specs.declared.record.Call.{Call}
 use Rattle.desk_lines.specs.declared.record.Call.TheVariants.{Changes, Asks}
-use Rattle.desk_lines.specs.declared.record.Turn.{Turn}
-use Rattle.desk_lines.specs.declared.record.Turn.TheVariants.{Over, Next}
 use Rattle.desk_lines.specs.declared.line.Line.{Line}
 use Rattle.desk_lines.specs.declared.line.Line.TheVariants.{End}
-use Rattle.desk_lines.specs.Read.{turn_of}
+use Rattle.desk_lines.specs.Read.{bad, Turn, turn_of}
 use Rattle.desk_lines.specs.Desk.{most_calls, bad_at}
 use Rattle.desk_lines.proofs.Window.{turn_within}
 use Rattle.desk_calls.specs.Served.{call_lines, call_state, Served}
@@ -48,37 +47,37 @@ module _ (w : List ℕ) (place : ℕ) {out : List ℕ} {at : ℕ} (room : Room a
     unfolding turn_plan
     closes lines few c plan =
         record {
-          there = omega (arith, c.taken);
+          there = omega (arith, ap (λ (t : Option ℕ). unwrap_or t 0) c.over);
           room = lines_fit lines (omega arith) room c.wrote;
           ends = λ h. c.over;
           goes = λ m s shows. subst⁻¹ (λ (p : Plan). GoesBy p r mem mem out at out') (plan m s) (closed_goes lines c refl);
         }
 
     module _ {turn : Turn} (is : turn ≡ turn_of w) where
-      pub turns_over : turn ≡ Over → LastStep (End (place - 1) ∷ []) r out at out' → TurnStep w place r mem mem out at out'
+      pub turns_over : turn ≡ Ok None → LastStep (End (place - 1) ∷ []) r out at out' → TurnStep w place r mem mem out at out'
       turns_over e c = closes (End (place - 1) ∷ []) (omega arith) c (λ m s. ap (call_plan m s place) (sym is ∙ e))
 
-      pub turns_bad : turn ≡ Turn.Bad → LastStep (bad_at place) r out at out' → TurnStep w place r mem mem out at out'
+      pub turns_bad : turn ≡ Err bad → LastStep (bad_at place) r out at out' → TurnStep w place r mem mem out at out'
       turns_bad e c = closes (bad_at place) (omega arith) c (λ m s. ap (call_plan m s place) (sym is ∙ e))
 
-      pub turns_late : (call : Call) (size : ℕ) → turn ≡ Next call size → most_calls < place → LastStep (bad_at place) r out at out' → TurnStep w place r mem mem out at out'
+      pub turns_late : (call : Call) (size : ℕ) → turn ≡ Ok (Some (call, size)) → most_calls < place → LastStep (bad_at place) r out at out' → TurnStep w place r mem mem out at out'
       turns_late call size e late c =
           closes (bad_at place) (omega arith) c
           (λ m s. ap (call_plan m s place) (sym is ∙ e) ∙ (λ i. cond (lt-ltb most_calls place late i) (last_lines (bad_at place)) (record { lines = call_lines m s place call; sequel = goes_on m (call_state m s call) size })))
 
   -- a call
-  pub turns_call : {mem mem' out' : List ℕ} {end : ℕ} {turn : Turn} → turn ≡ turn_of w → (call : Call) (size : ℕ) → turn ≡ Next call size → place ≤ most_calls → Served call place mem mem' out at end out'
-      → TurnStep w place (record { taken = size; end = end; over = false }) mem mem' out at out'
+  pub turns_call : {mem mem' out' : List ℕ} {end : ℕ} {turn : Turn} → turn ≡ turn_of w → (call : Call) (size : ℕ) → turn ≡ Ok (Some (call, size)) → place ≤ most_calls → Served call place mem mem' out at end out'
+      → TurnStep w place (record { taken = Some size; end = end }) mem mem' out at out'
   unfolding turn_plan
   turns_call {mem} {mem'} {out'} {end} is call size e early served =
       record {
         there = turn_within w (sym is ∙ e);
         room = lines_fit served.lines served.few room served.wrote;
         ends = λ h. absurd (omega arith);
-        goes = λ m s shows. subst⁻¹ (λ (p : Plan). GoesBy p (record { taken = size; end = end; over = false }) mem mem' out at out') (plan m s)
+        goes = λ m s shows. subst⁻¹ (λ (p : Plan). GoesBy p (record { taken = Some size; end = end }) mem mem' out at out') (plan m s)
             (record {
               wrote = rw (served.genuine m s shows).0 at served.wrote;
-              follows = (refl, refl, shown_by m (call_state m s call) mem shows.sound (call_good m s call shows.good) (served.genuine m s shows).1, (served.genuine m s shows).1);
+              follows = (refl, shown_by m (call_state m s call) mem shows.sound (call_good m s call shows.good) (served.genuine m s shows).1, (served.genuine m s shows).1);
             });
       }
     where

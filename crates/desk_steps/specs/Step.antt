@@ -1,5 +1,5 @@
--- What the contracts of the steps say: the bytes stored, the bytes taken, the memory, and whether it is over.
-use Rattle.std.specs.Prelude.{◌≡◌, true, false, List, ◌++◌, ℕ, ◌+◌, ◌≤◌, ◌<◌, length, take, drop}
+-- What the contracts of the steps say: the bytes stored, the bytes taken or that it is over, and the memory.
+use Rattle.std.specs.Prelude.{◌≡◌, List, ◌++◌, ℕ, ◌+◌, ◌≤◌, ◌<◌, length, take, drop, Some, None, unwrap_or}
 use Rattle.words.specs.Lists.{gather}
 use Rattle.roads.specs.Map.{Map, road_count, part_count}
 use Rattle.parts.specs.Size.{need}
@@ -26,16 +26,15 @@ pub record Room (at size : ℕ) : Type 0 where
   pub free : at + step_bytes ≤ size
   pub small : size ≤ most_buffer
 
--- the lines are stored from `at` on, no byte is taken, and it is over
+-- the lines are stored from `at` on, and it is over
 pub record LastStep (lines : List Line) (r : Step) (out : List ℕ) (at : ℕ) (out' : List ℕ) : Type 0 where
   pub wrote : Wrote out at (gather text_of lines) r.end out'
-  pub taken : r.taken ≡ 0
-  pub over : r.over ≡ true
+  pub over : r.taken ≡ None
 
 -- what follows: it is over, with the memory as before; or so many bytes are taken, and the memory shows the map and the fleet, with the words beyond the need as before
 abbrev pub Leads : Sequel → Step → List ℕ → List ℕ → Type 0
-Leads stops r mem mem' = (r.over ≡ true) × (r.taken ≡ 0) × (mem' ≡ mem)
-Leads (goes_on m s taken) r mem mem' = (r.over ≡ false) × (r.taken ≡ taken) × Shows m s mem' × (mem' ≡ image m s ++ drop (need m) mem)
+Leads stops r mem mem' = (r.taken ≡ None) × (mem' ≡ mem)
+Leads (goes_on m s taken) r mem mem' = (r.taken ≡ Some taken) × Shows m s mem' × (mem' ≡ image m s ++ drop (need m) mem)
 
 -- the step goes by the plan: its lines are stored from `at` on, and nothing else of the buffer changes
 pub record GoesBy (plan : Plan) (r : Step) (mem mem' out : List ℕ) (at : ℕ) (out' : List ℕ) : Type 0 where
@@ -50,13 +49,13 @@ OpenStep input map counts r mem mem' out out' =
 
 -- The first step.
 pub record BeginStep (input : List ℕ) (r : Step) (mem mem' out out' : List ℕ) : Type 0 where
-  pub there : r.taken ≤ length input
+  pub there : unwrap_or r.taken 0 ≤ length input
   pub room : r.end ≤ length out
   pub goes : GoesBy (begin_plan input) r mem mem' out 0 out'
 
 -- The step for `place`, on any memory, and on one that shows a map and a fleet.
 pub record TurnStep (input : List ℕ) (place : ℕ) (r : Step) (mem mem' out : List ℕ) (at : ℕ) (out' : List ℕ) : Type 0 where
-  pub there : r.taken ≤ length input
+  pub there : unwrap_or r.taken 0 ≤ length input
   pub room : r.end ≤ length out
-  pub ends : most_calls < place → r.over ≡ true
+  pub ends : most_calls < place → r.taken ≡ None
   pub goes : (m : Map) (s : State) → Shows m s mem → GoesBy (turn_plan m s place input) r mem mem' out at out'

@@ -1,7 +1,9 @@
 // The steps of the desk program on the bytes that it has read: the opening, and then one call after the other. The lines of a step go into a lent buffer.
 #![tactic(auto)]
 
-ghost use Rattle.std.specs.Prelude.{◌≡◌, ◌∷◌, [], ◌+◌, ◌≤◌, min, length, take, drop};
+ghost use Rattle.std.specs.Prelude.{◌≡◌, ◌∷◌, [], ◌+◌, ◌≤◌, length, take, drop};
+ghost use Rattle.fleet.specs.Change.{number_of};
+ghost use Rattle.answers.specs.Answered.{answered};
 ghost use Rattle.maps.specs.Judge.{judge};
 ghost use Rattle.desk_calls.specs.Served.{answer_words, most_buffer};
 ghost use Rattle.desk_lines.specs.declared.line.Line.TheVariants.{End};
@@ -9,12 +11,11 @@ ghost use Rattle.desk_lines.specs.Desk.{memory_room, bad_at, refused_opening};
 ghost use Rattle.desk_steps.specs.Plan.{judged_plan};
 ghost use Rattle.desk_steps.specs.Step.{step_bytes, Room, LastStep, GoesBy, OpenStep, BeginStep, TurnStep};
 
+use answers::Refusal;
 use counts::Counts;
 use desk_calls::serve;
-use desk_lines::{
-    Line, OPENING_BYTES, Opening, Taken, Turn, next_call, opening_of, take_map, write_line,
-};
-use map_judge::{Judgement, judge_map};
+use desk_lines::{BadRecord, Line, OPENING_BYTES, next_call, opening_of, take_map, write_line};
+use map_judge::judge_map;
 
 // Words that the buffer for the memory has.
 const MEMORY_WORDS: u32 = 16384;
@@ -24,12 +25,12 @@ const MOST_CALLS: u32 = 1000000;
 // More bytes than the lines of a step take.
 pub const STEP_BYTES: usize = 2048;
 
-// How many bytes a step takes, where its lines end, and whether the last line is among them.
 #[derive(Clone, Copy)]
 pub struct Step {
-    pub taken: usize,
+    // How many bytes the step takes; None where the last line is among its lines.
+    pub taken: Option<usize>,
+    // Where its lines end.
     pub end: usize,
-    pub over: bool,
 }
 
 // The last line, where no call follows the one at `place`.
@@ -39,9 +40,8 @@ fn finish(out: &mut [u8], at: usize, place: u32) -> Step
 {
     let last = write_line(out, at, Line::End { place });
     Step {
-        taken: 0,
+        taken: None,
         end: last,
-        over: true,
     }
 }
 
@@ -55,9 +55,10 @@ fn bad(out: &mut [u8], at: usize, place: u32) -> Step
 }
 
 // A refused opening.
-fn refuse(out: &mut [u8], number: u32) -> Step
-    ensures { LastStep (refused_opening number) result out.old 0 out.new }
+fn refuse(out: &mut [u8], refusal: Refusal) -> Step
+    ensures { LastStep (refused_opening (number_of (answered (Err refusal)))) result out.old 0 out.new }
 {
+    let number = refusal.number();
     let said = write_line(out, 0, Line::No { place: 0, number });
     finish(out, said, 0)
 }
@@ -67,29 +68,24 @@ fn open(input: &[u8], memory: &mut [u32], out: &mut [u8], counts: Counts, map: u
     requires { map ≤ length input.now }
     ensures { OpenStep input.now map counts result memory.old memory.new out.old out.new }
 {
-    match opening_of(&input[map..]) {
-        Opening::Bad => bad(out, 0, 0),
-        Opening::Start(start) => {
-            let reply = hailtrellis::open(&input[..map], memory, start);
-            let number = reply.number();
-            if number != 0 {
-                return refuse(out, number);
-            }
-            let end = write_line(
-                out,
-                0,
-                Line::Opened {
-                    vertices: counts.vertices,
-                    roads: counts.roads,
-                    parts: counts.parts,
-                },
-            );
-            Step {
-                taken: map + OPENING_BYTES,
-                end,
-                over: false,
-            }
-        }
+    let Ok(start) = opening_of(&input[map..]) else {
+        return bad(out, 0, 0);
+    };
+    if let Err(refusal) = hailtrellis::open(&input[..map], memory, start) {
+        return refuse(out, refusal);
+    }
+    let end = write_line(
+        out,
+        0,
+        Line::Opened {
+            vertices: counts.vertices,
+            roads: counts.roads,
+            parts: counts.parts,
+        },
+    );
+    Step {
+        taken: Some(map + OPENING_BYTES),
+        end,
     }
 }
 
@@ -99,23 +95,14 @@ fn judge(input: &[u8], memory: &mut [u32], out: &mut [u8], map: usize) -> Step
     ensures { GoesBy (judged_plan (judge (take map input.now)) map (drop map input.now)) result memory.old memory.new out.old 0 out.new }
 {
     match judge_map(&input[..map]) {
-        Judgement::Refused(reply) => refuse(out, reply.number()),
-        Judgement::Sound(counts, need) => {
-            if MEMORY_WORDS < need {
-                return refuse(out, 5);
+        Err(refusal) => refuse(out, refusal),
+        Ok(sound) => {
+            if MEMORY_WORDS < sound.need {
+                return refuse(out, Refusal::TooFewWords);
             }
-            open(input, memory, out, counts, map)
+            open(input, memory, out, sound.counts, map)
         }
     }
-}
-
-fn least(a: usize, b: usize) -> usize
-    ensures { result ≡ min a b }
-{
-    if a < b {
-        return a;
-    }
-    b
 }
 
 // The first step: the map is the first four records, or all of the input where it ends sooner, and after it stands the opening record.
@@ -124,8 +111,8 @@ pub fn begin(input: &[u8], memory: &mut [u32], out: &mut [u8]) -> Step
     ensures { BeginStep input.now result memory.old memory.new out.old out.new }
 {
     match take_map(input) {
-        Taken::TooLong => refuse(out, 5),
-        Taken::UpTo(map) => judge(input, memory, out, least(map, input.len())),
+        None => refuse(out, Refusal::TooFewWords),
+        Some(map) => judge(input, memory, out, map.min(input.len())),
     }
 }
 
@@ -142,17 +129,16 @@ pub fn turn(
     ensures { TurnStep input.now place result memory.old memory.new out.old at out.new }
 {
     match next_call(input) {
-        Turn::Over => finish(out, at, place - 1),
-        Turn::Bad => bad(out, at, place),
-        Turn::Next(call, size) => {
+        Ok(None) => finish(out, at, place - 1),
+        Err(BadRecord) => bad(out, at, place),
+        Ok(Some((call, size))) => {
             if MOST_CALLS < place {
                 return bad(out, at, place);
             }
             let end = serve(memory, answer, out, at, place, call);
             Step {
-                taken: size,
+                taken: Some(size),
                 end,
-                over: false,
             }
         }
     }

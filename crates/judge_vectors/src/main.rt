@@ -3,78 +3,57 @@
 // must come out.
 #![tactic(auto)]
 
-ghost use Rattle.std.specs.Prelude.{◌<◌, ◌≤◌, IfOk, length};
-
-use map_judge::{Judgement, judge_map};
-use packs::{item_at, read_file};
+use answers::Refusal;
+use map_judge::{Sound, judge_map};
+use packs::{read_file, split_item};
 use std::io;
 use std::rt::Files;
 
-fn write_number(rt: &impl Print, n: u64) -> io::Result<()> {
-    print!(rt; " {n}")
-}
-
-fn write_judgement(rt: &impl Print, judgement: Judgement) -> io::Result<()> {
-    match judgement {
-        Judgement::Sound(counts, need) => {
-            print!(rt; " sound")?;
-            write_number(rt, counts.vertices as u64)?;
-            write_number(rt, counts.roads as u64)?;
-            write_number(rt, counts.parts as u64)?;
-            write_number(rt, need as u64)?;
+fn write_judgement(rt: &impl Print, judged: Result<Sound, Refusal>) -> io::Result<()> {
+    match judged {
+        Ok(Sound { counts, need }) => {
+            println!(rt; " sound {} {} {} {need}", counts.vertices, counts.roads, counts.parts)
         }
-        Judgement::Refused(reply) => {
-            print!(rt; " refused")?;
-            write_number(rt, reply.number() as u64)?;
-        }
+        Err(refusal) => println!(rt; " refused {}", refusal.number()),
     }
-    println!(rt; "")
 }
 
-// Judges the map at `at`, and gives the place after it.
-fn judge_entry(rt: &impl Print, pack: &[u8], at: usize) -> io::Result<usize>
-    requires { at < length pack.now }
-    ensures { IfOk result (λ after. (at < after) × (after ≤ length pack.now)) }
-{
-    let item = item_at(pack, at);
-    let start = item.start;
-    let end = item.end;
-    if item.whole {
-        write_judgement(rt, judge_map(&pack[start..end]))?;
-    } else {
-        println!(rt; " cut")?;
-    }
-    Ok(end)
-}
-
-fn judge_pack(rt: &impl Print, group: &[u8], pack: &[u8]) -> io::Result<()> {
-    let mut at = 0;
+fn judge_pack(rt: &impl Print, group: &str, pack: &[u8]) -> io::Result<()> {
+    let mut rest = pack;
     let mut index: u64 = 0;
-    while at < pack.len() {
-        rt.write_all(group)?;
-        write_number(rt, index)?;
-        at = judge_entry(rt, pack, at)?;
+    while let Some((map, after)) = split_item(rest) {
+        print!(rt; "{group} {index}")?;
+        write_judgement(rt, judge_map(map))?;
+        rest = after;
         index += 1;
+    }
+    if !rest.is_empty() {
+        println!(rt; "{group} {index} cut")?;
     }
     Ok(())
 }
 
-fn judge_file(rt: &(impl Files + Print), group: &[u8], path: &[u8]) -> io::Result<()> {
+fn judge_file(rt: &(impl Files + Print), group: &str, path: &str) -> io::Result<()> {
     let mut pack = [0u8; 262144];
-    let n = read_file(rt, path, &mut pack)?;
+    let n = read_file(rt, path.as_bytes(), &mut pack)?;
     judge_pack(rt, group, &pack[..n])
 }
 
 fn main(rt: HostRuntime) -> io::Result<()> {
-    judge_file(&rt, b"sound", b"sound.pack")?;
-    judge_file(&rt, b"cuts", b"cuts.pack")?;
-    judge_file(&rt, b"records", b"records.pack")?;
-    judge_file(&rt, b"counts", b"counts.pack")?;
-    judge_file(&rt, b"parts", b"parts.pack")?;
-    judge_file(&rt, b"roads", b"roads.pack")?;
-    judge_file(&rt, b"order", b"order.pack")?;
-    judge_file(&rt, b"limits", b"limits.pack")?;
-    judge_file(&rt, b"full", b"full.pack")?;
-    judge_file(&rt, b"bytes", b"bytes.pack")?;
-    judge_file(&rt, b"random", b"random.pack")
+    for (group, path) in [
+        ("sound", "sound.pack"),
+        ("cuts", "cuts.pack"),
+        ("records", "records.pack"),
+        ("counts", "counts.pack"),
+        ("parts", "parts.pack"),
+        ("roads", "roads.pack"),
+        ("order", "order.pack"),
+        ("limits", "limits.pack"),
+        ("full", "full.pack"),
+        ("bytes", "bytes.pack"),
+        ("random", "random.pack"),
+    ] {
+        judge_file(&rt, group, path)?;
+    }
+    Ok(())
 }

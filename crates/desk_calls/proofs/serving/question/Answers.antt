@@ -1,11 +1,11 @@
 -- `serving::question` stores the lines of the list, or of the refusal.
 -- Assumes nothing.
-use mathlib.Core.Path.{refl}
+use Rattle.desk_calls.proofs.Answers.{refused_is}
 use Rattle.desk_calls.proofs.Calls.{served_list, served_refused}
 use Rattle.desk_calls.proofs.serving.question.Goals as goal
 
-pub returns-then-number-eq0 : goal.returns-then-number-eq0
-returns-then-number-eq0 c = served_list _ _ c.question-reply.ensures c.requires.1 c.number-number.ensures c.value.ensures c.if-number-eq0.true c.list.ensures
+pub returns-in-Ok : goal.returns-in-Ok
+returns-in-Ok c = served_list _ _ c.requires.1 _ c.in-Ok.ensures c.list.ensures
 
-pub returns : goal.returns
-returns c = served_refused _ _ c.question-reply.ensures c.requires.1 _ c.number-number.ensures c.if-number-eq0.false refl c.write_line.ensures
+pub returns-in-Err : goal.returns-in-Err
+returns-in-Err c = served_refused _ _ c.requires.1 _ c.in-Err.ensures (refused_is _) c.refused_line.ensures c.write_line.ensures
