@@ -7,10 +7,8 @@ ghost use Rattle.words.specs.Limits.{FAR, most_vertices};
 ghost use Rattle.words.specs.Lists.{word};
 ghost use Rattle.waiting.specs.Waiting.{Picked};
 
+use far_sums::FAR;
 use std::marker::Model;
-
-// No path, as a label; and no vertex that waits, as a key.
-pub const FAR: u32 = u32::MAX;
 
 // A key with its vertex: the lesser of two has the lesser key.
 fn keyed(key: u32, v: usize) -> u64
