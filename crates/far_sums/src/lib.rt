@@ -8,5 +8,5 @@ pub const FAR: u32 = 4294967295;
 pub fn far_sum(a: u32, b: u32) -> u32
     ensures { result ≡ min (a + b) 4294967295 }
 {
-    if b < FAR - a { a + b } else { FAR }
+    a.saturating_add(b)
 }

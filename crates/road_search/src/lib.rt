@@ -9,9 +9,10 @@ ghost use Rattle.road_relax.specs.Relaxing.{wake_all};
 ghost use Rattle.road_search.specs.Layout.{LaidMap, Measured, next_out, roads_out};
 
 use cells::wide;
+use far_sums::FAR;
 use layout::{RoadRecord, VertexRecord};
 use road_relax::relax_out;
-use waiting::{FAR, Waiting};
+use waiting::Waiting;
 
 // The words that show a map's roads: `n` vertices from `vertices_at` on, and `count` roads from `roads_at` on.
 #[derive(Drop)]

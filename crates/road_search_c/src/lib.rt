@@ -111,7 +111,7 @@ pub extern "C" fn hailtrellis_road_search(
         roads_at,
         count,
     };
-    if n <= a || !words.laid() {
+    if !words.laid() || n <= a {
         return false;
     }
     distances(mem, vertices_at, n, roads_at, count, a, labels);

@@ -7,13 +7,8 @@ ghost use Rattle.words.specs.Limits.{FAR, most_vertices};
 ghost use Rattle.words.specs.Lists.{word};
 ghost use Rattle.waiting.specs.Waiting.{Picked};
 
+use far_sums::FAR;
 use std::marker::Model;
-
-// No path, as a label; and no vertex that waits, as a key.
-pub const FAR: u32 = u32::MAX;
-
-// The key FAR with vertex 0.
-const NO_KEY: u64 = FAR as u64 * 65536;
 
 // A key with its vertex: the lesser of two has the lesser key.
 fn keyed(key: u32, v: usize) -> u64
@@ -77,11 +72,11 @@ fn raise(keys: &[u32; 4096], tree: &mut [u64; 1365], v: usize)
     tree[0] = raise_node(tree, 1, v / 1024, x);
 }
 
-// Which vertices wait: the key of each.
+// Which vertices wait: the key of each. The tree stands first: so no store of a key can be one of its root, which stays in a register.
 #[derive(Drop)]
 pub struct Waiting {
-    keys: [u32; 4096],
     tree: [u64; 1365],
+    keys: [u32; 4096],
 }
 
 impl Model for Waiting {
@@ -98,8 +93,8 @@ impl Waiting {
         ensures { result ≡ replicate most_vertices FAR }
     {
         Waiting {
+            tree: [u64::MAX; 1365],
             keys: [FAR; 4096],
-            tree: [NO_KEY; 1365],
         }
     }
 
