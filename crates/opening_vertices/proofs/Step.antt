@@ -1,6 +1,9 @@
 -- One vertex more.
 -- Assumes nothing.
 use Rattle.std.proofs.Common.{◌≡◌, ℕ, zero, suc, ◌+◌, ◌*◌, ◌%◌, ◌^◌, ◌<◌, ◌≤◌, Bool, eqb, ltb, List, length, set, sym, refl, ap, ◌∙◌, subst, ap₂, arith, length-set, get_or-set_other, get_or-set_same, le-ltb, lt-ltb, eq-eqb, ne_eqb}
+use Rattle.std.specs.Prelude.{Option, None, Some, MatchOption}
+use Rattle.std.specs.Option.{unwrap_or}
+use Rattle.maps.specs.Bytes.{road_shown}
 use native.Mathlib.Decide.{ℕ_discrete, dec_lt}
 use lib.Seq.{sets}
 use Rattle.words.specs.Limits.{most_parts}
@@ -19,6 +22,17 @@ use Rattle.image.specs.Image.{first_road_from, ends_at}
 use Rattle.records.proofs.Written.{written_up}
 use Rattle.opening_fresh.specs.Fresh.{vertex_words, fresh_vertex}
 use Rattle.opening_vertices.specs.Vertices.{Skipped, VerticesReady, VerticesStand}
+
+-- what is found among the roads
+pub skipped_by : (body : List ℕ) (roads first v : ℕ) (found : Option ℕ) (r : ℕ) → first ≤ roads
+    → MatchOption found ((k : ℕ) → first ≤ k → k < roads → (road_shown body k).from < v)
+    (λ i. (first ≤ i) × (i < roads) × (v ≤ (road_shown body i).from) × ((k : ℕ) → first ≤ k → k < i → (road_shown body k).from < v))
+    → r ≡ unwrap_or found roads → Skipped body roads first v r
+skipped_by body roads first v None r h none is =
+    record { passed = record { from = omega arith; most = omega arith; below = λ i low high. none i low (omega arith) }; stops = λ k. absurd (omega arith) }
+skipped_by body roads first v (Some i) r h some is =
+    subst (Skipped body roads first v) (sym is)
+    (record { passed = record { from = some.0; most = omega (arith, some.1); below = some.3 }; stops = λ k. some.2 })
 
 -- which vertices stand in a part, if it is a leaf
 abbrev pub stands_in : Map → ℕ → ℕ → Bool

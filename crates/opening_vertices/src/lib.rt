@@ -19,12 +19,9 @@ fn skip(body: &[u8], roads: u32, first: u32, v: u32) -> u32
     requires { first ≤ roads }
     ensures { Skipped body.now roads first v result }
 {
-    for r in first..roads {
-        if v <= Road::read(body, r).from {
-            return r;
-        }
-    }
-    roads
+    (first..roads)
+        .find(|r| v <= Road::read(body, *r).from)
+        .unwrap_or(roads)
 }
 
 // The next place in a leaf.
