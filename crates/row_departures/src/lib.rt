@@ -70,6 +70,7 @@ fn list_sources(mem: &[u32], part: PartRows, sources: &mut [Source; 128]) -> usi
 }
 
 // The least key of these sources, with the distances of a column of the table.
+#[tactic(auto, using(crate::proofs::Keys::gathered_turn, crate::proofs::Keys::gathered_done))]
 fn gather(mem: &[u32], part: PartRows, sources: &[Source], i: usize) -> u64
     requires within { Within mem.now part }
     requires sound { Sound part.size sources.now }
@@ -85,6 +86,7 @@ fn gather(mem: &[u32], part: PartRows, sources: &[Source], i: usize) -> u64
 }
 
 // The rows with these numbers are made anew.
+#[tactic(auto, using(crate::proofs::Keys::renewed_turn, crate::proofs::Keys::renewed_done))]
 fn renew_all(mem: &mut [u32], numbers: &[u32], part: PartRows, sources: &[Source])
     requires within { Within mem.old part }
     requires sound { Sound part.size sources.now }
@@ -99,6 +101,7 @@ fn renew_all(mem: &mut [u32], numbers: &[u32], part: PartRows, sources: &[Source
 }
 
 // The rows with these numbers are made anew from the part's sources as they stand.
+#[tactic(auto, unfolding(crate::specs::Departure::remade))]
 pub fn renew_part(mem: &mut [u32], numbers: &[u32], part: PartRows)
     requires within { Within mem.old part }
     requires are_rows { EachBelow part.size numbers.now }
