@@ -8,7 +8,7 @@ ghost use Rattle.row_departures.specs.Departure.{filled, keyed, far_key, unkeyed
 
 use cells::{more, wide};
 use layout::RowRecord;
-use part_words::PartRows;
+use part_words::{MOST_ROWS, PartRows};
 use row_words::{numbered, row_numbered, show, source};
 use rows::Row;
 
@@ -51,7 +51,7 @@ fn row_of_key(key: u64) -> Row
 }
 
 // The sources of a part's rows that are not empty. Says how many there are.
-fn list_sources(mem: &[u32], part: PartRows, sources: &mut [Source; 128]) -> usize
+fn list_sources(mem: &[u32], part: PartRows, sources: &mut [Source; MOST_ROWS]) -> usize
     requires { Within mem.now part }
     ensures few { result ≤ part.size }
     ensures listed { take result sources.new ≡ map (source_of mem.now part.first part.size) (filled mem.now part.first part.size) }
@@ -107,7 +107,7 @@ pub fn renew_part(mem: &mut [u32], numbers: &[u32], part: PartRows)
     requires are_rows { EachBelow part.size numbers.now }
     ensures { mem.new ≡ remade numbers.now mem.old part.first part.table part.size }
 {
-    let mut sources = [Source { key: 0, step: 0 }; 128];
+    let mut sources = [Source { key: 0, step: 0 }; MOST_ROWS];
     let n = list_sources(mem, part, &mut sources);
     renew_all(mem, numbers, part, &sources[..n]);
 }
