@@ -2,13 +2,11 @@
 -- Assumes nothing.
 use mathlib.Core.Path.{◌≡◌, sym, ◌∙◌, ap}
 use mathlib.Core.List.{List}
-use Prim.Native.Nat.{ℕ, ◌+◌, ◌*◌, ◌/◌, ◌%◌, ◌≤◌, ◌<◌, min}
+use Prim.Native.Nat.{ℕ, ◌+◌, ◌*◌, ◌≤◌, ◌<◌, min}
 use native.Mathlib.Numerals.{add-one}
 use lib.ListN.{length, get_or, drop, drop_of_length-le}
 use lib.Seq.{drop-cons}
-use borrow.Author.Tests.{lt-ltb, le-ltb}
 use Rattle.rows.specs.declared.Row.{Row}
-use Rattle.rows.specs.Row.{empty_row}
 use Rattle.row_words.specs.Words.{shown}
 use Rattle.row_departures.specs.declared.Source.{Source}
 use Rattle.row_departures.specs.Departure.{far_key, unkeyed, gathered, renewed}
