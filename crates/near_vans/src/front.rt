@@ -42,11 +42,9 @@ impl Model for Front {
 fn least_of(labels: &[u32]) -> Option<(usize, u32)>
     ensures { MatchOption result (length labels.now ≡ 0) (λ m. (m.0 < length labels.now) × (slice_index labels.now m.0 ≡ m.1) × EachIndex labels.now (λ i. m.1 ≤ slice_index labels.now i)) }
 {
-    labels
-        .iter()
-        .copied()
-        .enumerate()
-        .min_by_key(|(_, label)| *label)
+    let low = labels.iter().copied().min()?;
+    let place = labels.iter().position(|label| *label == low)?;
+    Some((place, low))
 }
 
 impl Front {
