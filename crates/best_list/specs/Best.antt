@@ -1,18 +1,23 @@
 -- What the list of the best holds, and what an offer does to it.
-use Rattle.std.specs.Prelude.{◌≡◌, ◌⊎◌, cond, List, [], ◌∷◌, ℕ, zero, suc, ◌-◌, ◌≤◌, ◌<◌, length, take, get_or, ltb}
-use Rattle.words.specs.Lists.{word}
+use Rattle.std.specs.Prelude.{◌≡◌, ◌⊎◌, cond, List, [], ◌∷◌, ℕ, ◌-◌, ◌≤◌, ◌<◌, length, take, get_or, map, ltb}
 use Rattle.fleet.specs.Question.{Listed, listed_before}
+use Rattle.best_list.specs.declared.Offer.{Offer}
+
+-- the offers that are listed, the first of them first, and how many may be
+pub record Best : Type 0 where
+  pub offers : List Offer
+  pub k : ℕ
 
 -- a van with its distance, and the stamp that it has by `stampOf`
 abbrev pub listed : (ℕ → ℕ) → ℕ → ℕ → Listed
 listed stampOf far van = record { van = van; distance = far; stamp = stampOf van }
 
--- the entries of two arrays, up to a length
-unfoldable pub entries : (ℕ → ℕ) → List ℕ → List ℕ → ℕ → List Listed
-entries stampOf fars vans zero = []
-entries stampOf [] vans (suc n) = []
-entries stampOf (f ∷ fars) [] (suc n) = []
-entries stampOf (f ∷ fars) (v ∷ vans) (suc n) = listed stampOf f v ∷ entries stampOf fars vans n
+abbrev pub listing : (ℕ → ℕ) → Offer → Listed
+listing stampOf o = listed stampOf o.far o.van
+
+-- the offers as entries of a question's list
+abbrev pub entries : (ℕ → ℕ) → Best → List Listed
+entries stampOf best = map (listing stampOf) best.offers
 
 -- the carried entry takes the place of each entry that it comes before, which is carried on
 unfoldable pub pass : Listed → List Listed → List Listed
@@ -32,16 +37,26 @@ unfoldable pub offered_all : ℕ → List Listed → List Listed → List Listed
 offered_all k l [] = l
 offered_all k l (e ∷ es) = offered_all k (offered k e l) es
 
--- the second of two vans, each with its distance, is not listed before the first
-abbrev pub NoLater : (far van there rival : ℕ) → Type 0
-NoLater far van there rival = (far < there) ⊎ ((far ≡ there) × (van ≤ rival))
+-- the second of two offers is not listed before the first
+abbrev pub NoLater : (first second : Offer) → Type 0
+NoLater first second = (first.far < second.far) ⊎ ((first.far ≡ second.far) × (first.van ≤ second.van))
 
--- the entries of two arrays of 32, up to a length, are in order: none comes before an earlier one
-pub record InOrder (fars vans : List ℕ) (len : ℕ) : Type 0 where
-  pub fars_length : length fars ≡ 32
-  pub vans_length : length vans ≡ 32
-  pub earlier : (i j : ℕ) → i < j → j < len → NoLater (word fars i) (word vans i) (word fars j) (word vans j)
+-- the offer at a place, past the end one of nothing
+abbrev pub offer_at : List Offer → ℕ → Offer
+offer_at offers i = get_or offers i (record { far = 0; van = 0 })
 
--- a van comes before none of the first n entries
-pub record BeforeNone (fars vans : List ℕ) (n far van : ℕ) : Type 0 where
-  pub earlier : (i : ℕ) → i < n → NoLater (word fars i) (word vans i) far van
+-- offers are in order: none comes before an earlier one
+pub record InOrder (offers : List Offer) : Type 0 where
+  pub earlier : (i j : ℕ) → i < j → j < length offers → NoLater (offer_at offers i) (offer_at offers j)
+
+-- an offer comes before none of the first n
+pub record BeforeNone (offers : List Offer) (n : ℕ) (offer : Offer) : Type 0 where
+  pub earlier : (i : ℕ) → i < n → NoLater (offer_at offers i) offer
+
+-- what a list of at most k keeps, of whose 32 offers the first `len` are listed
+pub record Standing (offers : List Offer) (len k : ℕ) : Type 0 where
+  pub room : len ≤ k
+  pub some : 1 ≤ k
+  pub most : k ≤ 32
+  pub all : length offers ≡ 32
+  pub order : InOrder (take len offers)

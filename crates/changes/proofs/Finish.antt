@@ -7,13 +7,14 @@ use Prim.Native.Nat.{ℕ, suc, ◌+◌}
 use native.Mathlib.Omega.{arith}
 use native.Mathlib.Decide.{ℕ_discrete}
 use borrow.Author.Tests.{eq-eqb, ne_eqb}
+use Rattle.std.specs.Prelude.{Result, Ok, Err}
 use Rattle.words.specs.Limits.{last_count}
 use Rattle.words.specs.Lists.{word}
 use Rattle.layout.specs.Layout.{count_in_head}
 use Rattle.roads.specs.Map.{Map}
 use Rattle.maps.specs.Sound.{Sound}
-use Rattle.answers.specs.declared.Reply.{Reply}
-use Rattle.answers.specs.declared.Reply.TheVariants.{Accepted, CountFull}
+use Rattle.answers.specs.declared.Refusal.{Refusal}
+use Rattle.answers.specs.declared.Refusal.TheVariants.{CountFull}
 use Rattle.answers.specs.Answered.{answered}
 use Rattle.counts.specs.declared.Counts.{Counts}
 use Rattle.places.specs.Place.{counts_in}
@@ -28,11 +29,9 @@ use Rattle.van_lists.specs.Slot.{standing_words}
 use Rattle.van_lists.specs.Walk.{van_in}
 use Rattle.van_lists.proofs.Relink.{slot_new}
 use Rattle.road_lookup.proofs.Shown.{counts_of, counts_read, image_roads}
-use Rattle.refusals.specs.declared.Verdict.{Verdict}
-use Rattle.refusals.specs.declared.Verdict.TheVariants.{Refuse, Stand}
-use Rattle.refusals.specs.Verdict.{HasVerdict}
+use Rattle.refusals.specs.Verdict.{Verdict, HasVerdict}
 use Rattle.refusals.proofs.Agrees.{VerdictAgrees, agrees}
-use Rattle.refusals.proofs.Later.{Later, judged_later}
+use Rattle.refusals.proofs.Later.{judged_later}
 use Rattle.changes.specs.Made.{counted, settled}
 use Rattle.changes.specs.Done.{ChangeDone}
 use Rattle.changes.proofs.Reading.{count_read, image_weights, van_read}
@@ -49,7 +48,7 @@ pub record Read (mem : List ℕ) (c : Change) (counts : Counts) (van : ℕ) (old
   pub van_is : van ≡ van_of c
   pub old_is : old ≡ van_in mem counts van
 
-module _ (mem : List ℕ) (c : Change) (counts : Counts) (van : ℕ) (old : VanWords) (read : Read mem c counts van old) (verdict : Verdict) (j : HasVerdict mem counts old c verdict) where
+module _ (mem : List ℕ) (c : Change) (counts : Counts) (van : ℕ) (old : VanWords) (read : Read mem c counts van old) where
   -- the same of the words of a map and a fleet
   module _ (m : Map) (s : State) (sound : Sound m) (good : Good m s) (e : mem ≡ image m s) (ok : in_range c ≡ true) where
     counts_are : counts ≡ counts_of m
@@ -58,31 +57,31 @@ module _ (mem : List ℕ) (c : Change) (counts : Counts) (van : ℕ) (old : VanW
     old_are : old ≡ standing_words (slot_of s (van_of c))
     old_are = read.old_is ∙ (λ i. van_in (e i) (counts_are i) (read.van_is i)) ∙ van_read m s good.slots (van_of c) (van_in_range_lem c ok)
 
-    pub agreed : VerdictAgrees m s c verdict
-    agreed =
+    agreed : (verdict : Verdict) → HasVerdict mem counts old c verdict → VerdictAgrees m s c verdict
+    agreed verdict j =
         agrees m s (image m s) (counts_of m) sound (image_roads m s good.slots) (image_weights m s good.slots) c ok verdict
         (subst (λ (k : VanWords). HasVerdict (image m s) (counts_of m) k c verdict) old_are
         (subst (λ (k : Counts). HasVerdict (image m s) k old c verdict) counts_are
         (subst (λ (l : List ℕ). HasVerdict l counts old c verdict) e j)))
 
-  pub refused_done : (r : Reply) → verdict ≡ Refuse r → ChangeDone c mem (answered r) mem
-  refused_done r is =
+  pub refused_done : (r : Refusal) → HasVerdict mem counts old c (Err r) → ChangeDone c mem (answered (Err r)) mem
+  refused_done r j =
       record {
         right = λ m s sound good e ok.
-            let a : VerdictAgrees m s c (Refuse r) = subst (VerdictAgrees m s c) is (agreed m s sound good e ok) in
+            let a = agreed m s sound good e ok (Err r) j in
             let by : step m s c ≡ step_by (suc a.0) m s c = step_by_lem m s c (suc a.0) a.1 in
             (a.2 ∙ ap (λ (k : Stepped). k.answer) (sym by), e ∙ ap (λ (k : Stepped). image m k.state) (sym by));
         refusal = λ n same. refl;
-        neither = subst Later is (judged_later mem counts old c verdict j);
+        neither = judged_later mem counts old c (Err r) j;
       }
 
-  module _ (w : VanWords) (is : verdict ≡ Stand w) (r : Reply) (after : List ℕ)
+  module _ (w : VanWords) (j : HasVerdict mem counts old c (Ok w)) (r : Result ℕ Refusal) (after : List ℕ)
       (answer : r ≡ counted (word mem count_in_head)) (words : after ≡ settled mem counts van old w) where
-    used_up : word mem count_in_head ≡ last_count → (r ≡ CountFull) × (after ≡ mem)
+    used_up : word mem count_in_head ≡ last_count → (r ≡ Err CountFull) × (after ≡ mem)
     unfolding settled
     used_up last = (answer ∙ rw (eq-eqb (word mem count_in_head) last_count last), words ∙ rw (eq-eqb (word mem count_in_head) last_count last))
 
-    goes : (word mem count_in_head ≡ last_count → ⊥) → r ≡ Accepted (word mem count_in_head + 1)
+    goes : (word mem count_in_head ≡ last_count → ⊥) → r ≡ Ok (word mem count_in_head + 1)
     goes more = answer ∙ rw (ne_eqb (word mem count_in_head) last_count more)
 
     right : (m : Map) (s : State) → Sound m → Good m s → mem ≡ image m s → in_range c ≡ true → (answered r ≡ (step m s c).answer) × (after ≡ image m (step m s c).state)
@@ -91,14 +90,14 @@ module _ (mem : List ℕ) (c : Change) (counts : Counts) (van : ℕ) (old : VanW
         count : word mem count_in_head ≡ s.count
         count = ap (λ (l : List ℕ). word l 5) e ∙ count_read m s good.slots
 
-        a : VerdictAgrees m s c (Stand w)
-        a = subst (VerdictAgrees m s c) is (agreed m s sound good e ok)
+        a : VerdictAgrees m s c (Ok w)
+        a = agreed m s sound good e ok (Ok w) j
 
         refuses : s.count ≡ last_count → (answered r ≡ (step m s c).answer) × (after ≡ image m (step m s c).state)
         refuses last =
             let none : count_left s ≡ false = ap not (eq-eqb s.count last_count last) in
             let by : step m s c ≡ step_by 15 m s c = step_by_lem m s c 15 (a.0 ∙ simp none) in
-            let kept : (r ≡ CountFull) × (after ≡ mem) = used_up (count ∙ last) in
+            let kept : (r ≡ Err CountFull) × (after ≡ mem) = used_up (count ∙ last) in
             (ap answered kept.0 ∙ ap (λ (k : Stepped). k.answer) (sym by), kept.1 ∙ e ∙ ap (λ (k : Stepped). image m k.state) (sym by))
 
         accepts : (s.count ≡ last_count → ⊥) → (answered r ≡ (step m s c).answer) × (after ≡ image m (step m s c).state)

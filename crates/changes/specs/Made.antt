@@ -1,10 +1,10 @@
 -- What the functions of this crate do to any list of words, of a fleet or not.
-use Rattle.std.specs.Prelude.{ℕ, ◌+◌, Bool, true, false, cond, List, set, eqb}
+use Rattle.std.specs.Prelude.{ℕ, ◌+◌, Bool, true, false, cond, List, set, eqb, Option, None, Some, Result, Ok, Err}
 use Rattle.words.specs.Limits.{last_count}
 use Rattle.words.specs.Lists.{word}
 use Rattle.layout.specs.Layout.{count_in_head, vans_in_vertex}
-use Rattle.answers.specs.declared.Reply.{Reply}
-use Rattle.answers.specs.declared.Reply.TheVariants.{Accepted, CountFull}
+use Rattle.answers.specs.declared.Refusal.{Refusal}
+use Rattle.answers.specs.declared.Refusal.TheVariants.{CountFull}
 use Rattle.counts.specs.declared.Counts.{Counts}
 use Rattle.places.specs.Place.{vertex_address}
 use Rattle.fleet.specs.State.{absent}
@@ -30,22 +30,28 @@ van_departed mem counts van vertex words = let after = taken_out mem counts van 
 unfoldable pub van_arrived : List ℕ → Counts → ℕ → ℕ → VanWords → List ℕ
 van_arrived mem counts van vertex words = switched_alone (put_in mem counts van vertex words) vertex (first_van_in mem counts vertex) true
 
--- a van that stood as `old` says and stands as `new` says, by the ends of its roads
+-- a free van that is free still, by the ends of its roads
 unfoldable pub moved : List ℕ → Counts → ℕ → (from to : ℕ) → VanWords → List ℕ
 moved mem counts van from to new =
     cond (eqb from to) (van_written mem counts van new) (van_arrived (van_departed mem counts van from (standing_words absent)) counts van to new)
 
+-- the vertex that a van heads for, if it is free: the end of its road
+abbrev pub head_in : List ℕ → Counts → VanWords → Option ℕ
+head_in mem counts words = cond (eqb words.state 1) (Some (end_in mem counts words.road)) None
+
+-- a van that stands as `new` says, by where it headed and where it heads
+abbrev pub made_by : List ℕ → Counts → ℕ → (from to : Option ℕ) → VanWords → List ℕ
+made_by mem counts van (Some from) (Some to) new = moved mem counts van from to new
+made_by mem counts van (Some from) None new = van_departed mem counts van from new
+made_by mem counts van None (Some to) new = van_arrived mem counts van to new
+made_by mem counts van None None new = van_written mem counts van new
+
 unfoldable pub made : List ℕ → Counts → ℕ → (old new : VanWords) → List ℕ
-made mem counts van old new =
-    let from = end_in mem counts old.road in
-    let to = end_in mem counts new.road in
-    cond (eqb old.state 1)
-    (cond (eqb new.state 1) (moved mem counts van from to new) (van_departed mem counts van from new))
-    (cond (eqb new.state 1) (van_arrived mem counts van to new) (van_written mem counts van new))
+made mem counts van old new = made_by mem counts van (head_in mem counts old) (head_in mem counts new) new
 
 -- the answer to a change that nothing but the change count can refuse, and what it leaves
-abbrev pub counted : ℕ → Reply
-counted count = cond (eqb count last_count) CountFull (Accepted (count + 1))
+abbrev pub counted : ℕ → Result ℕ Refusal
+counted count = cond (eqb count last_count) (Err CountFull) (Ok (count + 1))
 
 unfoldable pub settled : List ℕ → Counts → ℕ → (old new : VanWords) → List ℕ
 settled mem counts van old new = cond (eqb (word mem count_in_head) last_count) mem (made (set mem count_in_head (word mem count_in_head + 1)) counts van old (stamped new (word mem count_in_head + 1)))

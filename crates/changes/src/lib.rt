@@ -2,29 +2,30 @@
 // its place, taken out of the list of a vertex, put into the list of a vertex; the rows are refreshed where a vertex becomes active or inactive.
 #![tactic(auto)]
 
-ghost use Rattle.std.specs.Prelude.{◌≡◌, true, ◌&&◌, ◌<◌};
+ghost use Rattle.std.specs.Prelude.{◌≡◌, ◌<◌};
 ghost use Rattle.words.specs.Limits.{vans};
 ghost use Rattle.words.specs.Lists.{word};
 ghost use Rattle.answers.specs.Answered.{answered};
-ghost use Rattle.fleet.specs.Change.{van_in_range, desk_in_range, in_range, van_of};
+ghost use Rattle.fleet.specs.Change.{in_range, van_of};
 ghost use Rattle.refusals.specs.Verdict.{desk_of};
 ghost use Rattle.calls.specs.Outcome.{Changed};
-ghost use Rattle.changes.specs.Made.{switched_alone, van_departed, van_arrived, made, counted, settled};
+ghost use Rattle.changes.specs.Made.{switched_alone, van_departed, van_arrived, head_in, made, counted, settled};
 ghost use Rattle.changes.specs.Done.{ChangeDone};
 
-use answers::Reply;
-use cells::{put, wide, word};
-use counts::{Counts, is_within};
+use answers::{Refusal, Reply};
+use cells::{put, word};
+use counts::Counts;
 use fleet::Change;
-use head::opened_head;
+use head::used_words;
 use layout::{HeadRecord, VertexRecord};
 use places::{counts_in, vertex_at};
-use refusals::{Verdict, judged, van_of};
+use refusals::judged;
 use road_lookup::road_end;
 use row_refresh::switch;
 use van_lists::{VanWords, put_in, take_out, van_in, write_van};
 
 // Where `others`, the first of the other vans in the list of the vertex, is none, the vertex becomes active (`arrives`) or inactive.
+#[tactic(auto, unfolding(crate::specs::Made::switched_alone))]
 fn switch_alone(mem: &mut [u32], vertex: u32, others: u32, arrives: bool)
     ensures { mem.new ≡ switched_alone mem.old vertex others arrives }
 {
@@ -34,6 +35,7 @@ fn switch_alone(mem: &mut [u32], vertex: u32, others: u32, arrives: bool)
 }
 
 // A free van for `vertex` stands as `words` say, and heads nowhere.
+#[tactic(auto, unfolding(crate::specs::Made::van_departed))]
 fn depart(mem: &mut [u32], counts: Counts, van: u32, vertex: u32, words: VanWords)
     ensures { mem.new ≡ van_departed mem.old counts van vertex words }
 {
@@ -43,6 +45,7 @@ fn depart(mem: &mut [u32], counts: Counts, van: u32, vertex: u32, words: VanWord
 }
 
 // A van that heads nowhere stands as `words` say, a free van for `vertex`.
+#[tactic(auto, unfolding(crate::specs::Made::van_arrived))]
 fn arrive(mem: &mut [u32], counts: Counts, van: u32, vertex: u32, words: VanWords)
     requires { van < vans }
     ensures { mem.new ≡ van_arrived mem.old counts van vertex words }
@@ -52,46 +55,48 @@ fn arrive(mem: &mut [u32], counts: Counts, van: u32, vertex: u32, words: VanWord
     switch_alone(mem, vertex, others, true);
 }
 
+// The vertex that a free van heads for, the end of its road; other vans head nowhere.
+fn head_of(mem: &[u32], counts: Counts, words: VanWords) -> Option<u32>
+    ensures { result ≡ head_in mem.now counts words }
+{
+    if words.state == VanWords::FREE {
+        Some(road_end(mem, counts, words.road))
+    } else {
+        None
+    }
+}
+
 // The van, which stood as `old` says, stands as `new` says.
+#[tactic(auto, unfolding(crate::specs::Made::made, crate::specs::Made::moved))]
 fn make(mem: &mut [u32], counts: Counts, van: u32, old: VanWords, new: VanWords)
     requires { van < vans }
     ensures { mem.new ≡ made mem.old counts van old new }
 {
-    if old.state == VanWords::FREE {
-        let from = road_end(mem, counts, old.road);
-        if new.state == VanWords::FREE {
-            let to = road_end(mem, counts, new.road);
-            if from == to {
-                write_van(mem, counts, van, new);
-                return;
-            }
+    match (head_of(mem, counts, old), head_of(mem, counts, new)) {
+        (Some(from), Some(to)) if from != to => {
             depart(mem, counts, van, from, VanWords::ABSENT);
             arrive(mem, counts, van, to, new);
-            return;
         }
-        depart(mem, counts, van, from, new);
-        return;
+        (Some(from), None) => depart(mem, counts, van, from, new),
+        (None, Some(to)) => arrive(mem, counts, van, to, new),
+        _ => write_van(mem, counts, van, new),
     }
-    if new.state == VanWords::FREE {
-        let to = road_end(mem, counts, new.road);
-        arrive(mem, counts, van, to, new);
-        return;
-    }
-    write_van(mem, counts, van, new);
 }
 
 // The van stands as `new` says, under the next count as its stamp, unless the count is used up.
+#[tactic(auto, unfolding(crate::specs::Made::settled))]
 fn settle(mem: &mut [u32], counts: Counts, van: u32, old: VanWords, new: VanWords) -> Reply
     requires { van < vans }
-    ensures { (result ≡ counted (word mem.old 5)) × (mem.new ≡ settled mem.old counts van old new) }
+    ensures answer { result ≡ counted (word mem.old 5) }
+    ensures words { mem.new ≡ settled mem.old counts van old new }
 {
     let count = word(mem, HeadRecord::COUNT);
-    if count == VanWords::LAST_STAMP {
-        return Reply::CountFull;
-    }
-    put(mem, HeadRecord::COUNT, count + 1);
-    make(mem, counts, van, old, new.stamped(count + 1));
-    Reply::Accepted(count + 1)
+    let Some(stamp) = count.checked_add(1) else {
+        return Err(Refusal::CountFull);
+    };
+    put(mem, HeadRecord::COUNT, stamp);
+    make(mem, counts, van, old, new.stamped(stamp));
+    Ok(stamp)
 }
 
 // The change on the words used of a memory, where its numbers are in range.
@@ -100,49 +105,24 @@ pub fn change_in(mem: &mut [u32], change: Change) -> Reply
     ensures { ChangeDone change mem.old (answered result) mem.new }
 {
     let counts = counts_in(mem);
-    let van = van_of(change);
+    let van = change.van();
     let old = van_in(mem, counts, van);
-    let verdict = judged(mem, counts, old, change);
-    match verdict {
-        Verdict::Refuse(reply) => reply,
-        Verdict::Stand(new) => settle(mem, counts, van, old, new),
-    }
-}
-
-// The van and the desk are in range.
-fn holding_in_range(van: u32, desk: u32) -> bool
-    ensures { result ≡ (van_in_range van && desk_in_range desk) }
-{
-    if van >= VanWords::VANS {
-        return false;
-    }
-    is_within(1, VanWords::MOST_DESK, desk)
+    let new = judged(mem, counts, old, change)?;
+    settle(mem, counts, van, old, new)
 }
 
 // Each number of the change is in its range.
 fn in_range(change: Change) -> bool
     ensures { result ≡ in_range change }
 {
+    if change.van() >= VanWords::VANS {
+        return false;
+    }
     match change {
-        Change::Add {
-            van,
-            from: _,
-            to: _,
-            offset: _,
-        } => van < VanWords::VANS,
-        Change::Move {
-            van,
-            from: _,
-            to: _,
-            offset: _,
-        } => van < VanWords::VANS,
-        Change::Remove { van } => van < VanWords::VANS,
-        Change::Claim {
-            van,
-            stamp: _,
-            desk,
-        } => holding_in_range(van, desk),
-        Change::Release { van, desk } => holding_in_range(van, desk),
+        Change::Claim { desk, .. } | Change::Release { desk, .. } => {
+            (1..=VanWords::MOST_DESK).contains(&desk)
+        }
+        _ => true,
     }
 }
 
@@ -150,12 +130,9 @@ fn in_range(change: Change) -> bool
 pub fn change(mem: &mut [u32], change: Change) -> Reply
     ensures { Changed change mem.old (answered result) mem.new }
 {
-    if !opened_head(mem) {
-        return Reply::NotOpened;
-    }
+    let used = used_words(mem)?;
     if !in_range(change) {
-        return Reply::OutOfRange;
+        return Err(Refusal::OutOfRange);
     }
-    let used = wide(word(mem, HeadRecord::USED));
     change_in(&mut mem[..used], change)
 }

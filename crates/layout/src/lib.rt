@@ -2,10 +2,29 @@
 // contracts, and each section's start. Words that have no name are 0, room for what is still to come.
 #![tactic(auto)]
 
-ghost use Rattle.std.specs.Prelude.{◌≡◌, ◌<◌};
-ghost use Rattle.layout.specs.Layout.{words_in_part, words_in_row, part_word, row_word};
+ghost use Rattle.std.specs.Prelude.{◌≡◌, ℕ, ◌+◌, ◌*◌, ◌^◌, ◌≤◌, ◌<◌};
+ghost use Rattle.std.proofs.Common.{lit≤};
+ghost use Rattle.words.specs.Lists.{word};
+ghost use Rattle.layout.specs.Layout.{words_in_part, words_in_vertex, words_in_road, words_in_van, words_in_row, part_word, row_word};
 
 use cells::{wide, word};
+
+// A kind of record, of which a section has one after the other: how many words each has.
+pub trait Record {
+    const WORDS: usize;
+
+    ghost WORDS: { ℕ };
+
+    ghost few: { WORDS ≤ 8 };
+}
+
+// Word w of record i of those that start at `first`.
+pub fn record_word<R: Record>(mem: &[u32], first: usize, i: u32, w: usize) -> u32
+    requires { (first < 2 ^ 63) × (w < R.WORDS) }
+    ensures { result ≡ word mem.now (first + R.WORDS * i + w) }
+{
+    word(mem, first + R::WORDS * wide(i) + w)
+}
 
 // The head: the memory's first words.
 #[derive(Drop)]
@@ -33,6 +52,14 @@ impl HeadRecord {
 #[derive(Drop)]
 pub struct PartRecord {}
 
+impl Record for PartRecord {
+    const WORDS: usize = PartRecord::WORDS;
+
+    ghost WORDS = { words_in_part };
+
+    ghost few = { lit≤ tt };
+}
+
 impl PartRecord {
     pub const WORDS: usize = 8;
 
@@ -54,6 +81,14 @@ impl PartRecord {
 
 #[derive(Drop)]
 pub struct VertexRecord {}
+
+impl Record for VertexRecord {
+    const WORDS: usize = VertexRecord::WORDS;
+
+    ghost WORDS = { words_in_vertex };
+
+    ghost few = { lit≤ tt };
+}
 
 impl VertexRecord {
     pub const WORDS: usize = 8;
@@ -78,6 +113,14 @@ impl VertexRecord {
 #[derive(Drop)]
 pub struct RoadRecord {}
 
+impl Record for RoadRecord {
+    const WORDS: usize = RoadRecord::WORDS;
+
+    ghost WORDS = { words_in_road };
+
+    ghost few = { lit≤ tt };
+}
+
 impl RoadRecord {
     pub const WORDS: usize = 4;
 
@@ -94,9 +137,16 @@ impl RoadRecord {
 #[derive(Drop)]
 pub struct VanRecord {}
 
+impl Record for VanRecord {
+    const WORDS: usize = VanRecord::WORDS;
+
+    ghost WORDS = { words_in_van };
+
+    ghost few = { lit≤ tt };
+}
+
 impl VanRecord {
     pub const WORDS: usize = 8;
-
     // How many vans have a record: their numbers are below it.
     pub const VANS: u32 = 1024;
 
@@ -115,9 +165,16 @@ impl VanRecord {
 #[derive(Drop)]
 pub struct RowRecord {}
 
+impl Record for RowRecord {
+    const WORDS: usize = RowRecord::WORDS;
+
+    ghost WORDS = { words_in_row };
+
+    ghost few = { lit≤ tt };
+}
+
 impl RowRecord {
     pub const WORDS: usize = 4;
-
     // The nearest active vertex, and its distance.
     pub const VERTEX: usize = 0;
 
@@ -137,7 +194,7 @@ pub fn part_word(mem: &[u32], p: u32, w: usize) -> u32
     requires { w < words_in_part }
     ensures { result ≡ part_word mem.now p w }
 {
-    word(mem, HeadRecord::WORDS + PartRecord::WORDS * wide(p) + w)
+    record_word::<PartRecord>(mem, HeadRecord::WORDS, p, w)
 }
 
 // Word w of row i of the rows that start at `first`.
@@ -145,5 +202,5 @@ pub fn row_word(mem: &[u32], first: u32, i: u32, w: usize) -> u32
     requires { w < words_in_row }
     ensures { result ≡ row_word mem.now first i w }
 {
-    word(mem, wide(first) + RowRecord::WORDS * wide(i) + w)
+    record_word::<RowRecord>(mem, wide(first), i, w)
 }

@@ -3,28 +3,26 @@
 
 ghost use Rattle.answers.specs.Answered.{answered};
 ghost use Rattle.calls.specs.Outcome.{LookedUp};
+ghost use Rattle.look.specs.Looked.{LookedIn};
 
 use answers::Reply;
-use cells::{wide, word};
-use head::opened_head;
-use layout::HeadRecord;
+use head::used_words;
 use places::counts_in;
-use road_lookup::{Lookup, look_up};
+use road_lookup::look_up;
+
+// A lookup in the words used.
+fn road_in(words: &[u32], from: u32, to: u32) -> Reply
+    ensures { LookedIn words.now from to result }
+{
+    let counts = counts_in(words);
+    let _road = look_up(words, counts, from, to)?;
+    Ok(0)
+}
 
 // Accepted where there is a road from `from` to `to`; else refused by whether the other way is one.
 pub fn road(mem: &[u32], from: u32, to: u32) -> Reply
     ensures { LookedUp mem.now from to (answered result) }
 {
-    if !opened_head(mem) {
-        return Reply::NotOpened;
-    }
-    let used = wide(word(mem, HeadRecord::USED));
-    let inside = &mem[..used];
-    let counts = counts_in(inside);
-    let lookup = look_up(inside, counts, from, to);
-    match lookup {
-        Lookup::Found(_) => Reply::Accepted(0),
-        Lookup::OtherWay => Reply::WrongWay,
-        Lookup::Neither => Reply::NoRoad,
-    }
+    let used = used_words(mem)?;
+    road_in(&mem[..used], from, to)
 }

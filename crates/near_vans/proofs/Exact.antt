@@ -2,7 +2,6 @@
 -- Assumes nothing.
 use mathlib.Core.Path.{◌≡◌, ap, subst, ◌∙◌}
 use mathlib.Core.Logic.{⊎_elim}
-use mathlib.Core.List.{List}
 use Prim.Native.Nat.{ℕ, ◌+◌, ◌≤◌, ◌<◌}
 use native.Mathlib.Decide.{dec_lt}
 use native.Mathlib.Omega.{arith}
@@ -14,43 +13,43 @@ use Rattle.roads.specs.Walk.{Walk, stay, go}
 use Rattle.roads.specs.Dist.{dist}
 use Rattle.roads.proofs.Trail.{Net}
 use Rattle.roads.proofs.Exact.{dist_exact}
-use Rattle.near_vans.specs.Around.{Reached, Around, LeastLabel}
+use Rattle.near_vans.specs.Around.{Waits, Reached, Around, LeastLabel}
 
 module _ {m : Map} (net : Net m) where
   -- whoever has a way to x that weighs less than each label has been taken
-  pub nearer_taken : {v x w : ℕ} (low : ℕ) (at labels vertices : List ℕ) (n : ℕ) → Around m x 0 (road_count m) at labels vertices n → ((i : ℕ) → i < n → low ≤ word labels i)
-      → Walk m v x w → w < low → word at v ≡ 255
-  nearer_taken low at labels vertices n a least (stay h) less = ⊎_elim (λ taken. taken) (λ (i, hi, is, most). absurd (omega (arith, least i hi, most, less))) a.start
-  nearer_taken {x = x} low at labels vertices n a least (go {a = u} {b} {w = weight} {rest} road walk) less =
+  pub nearer_taken : {v x w : ℕ} (low : ℕ) (f : Waits) → Around m x 0 (road_count m) f → ((i : ℕ) → i < f.n → low ≤ word f.labels i)
+      → Walk m v x w → w < low → word f.at v ≡ 255
+  nearer_taken low f a least (stay h) less = ⊎_elim (λ taken. taken) (λ (i, hi, is, most). absurd (omega (arith, least i hi, most, less))) a.start
+  nearer_taken {x = x} low f a least (go {a = u} {b} {w = weight} {rest} road walk) less =
       let (j, hj, is) = numbered no_road m.roads _ road in
-      let next : word at b ≡ 255 = nearer_taken low at labels vertices n a least walk (omega arith) in
-      let reached : Reached at labels vertices n u (weight + dist m b x) =
-      subst (λ (r : Road). Reached at labels vertices n r.from (r.weight + dist m r.to x)) is
-      (a.reached j hj (ap (λ (r : Road). word at r.to) is ∙ next) (λ same. hj)) in
+      let next : word f.at b ≡ 255 = nearer_taken low f a least walk (omega arith) in
+      let reached : Reached f u (weight + dist m b x) =
+      subst (λ (r : Road). Reached f r.from (r.weight + dist m r.to x)) is
+      (a.reached j hj (ap (λ (r : Road). word f.at r.to) is ∙ next) (λ same. hj)) in
       ⊎_elim (λ taken. taken) (λ (i, hi, is, most). absurd (omega (arith, least i hi, most, less, (dist_exact m net b x (net.to _ road)).least rest walk))) reached
 
   -- so the least label is its vertex's distance
-  pub least_exact : (x : ℕ) (at labels vertices : List ℕ) (n i : ℕ) → Around m x 0 (road_count m) at labels vertices n → LeastLabel labels n i
-      → (word labels i ≡ dist m (word vertices i) x) × (word labels i < FAR)
-  least_exact x at labels vertices n i a l = (omega (arith, no_more, no_less (dec_lt (dist m v x) (word labels i))), omega (arith, near, no_less (dec_lt (dist m v x) (word labels i))))
+  pub least_exact : (x : ℕ) (f : Waits) (i : ℕ) → Around m x 0 (road_count m) f → LeastLabel f.labels f.n i
+      → (word f.labels i ≡ dist m (word f.vertices i) x) × (word f.labels i < FAR)
+  least_exact x f i a l = (omega (arith, no_more, no_less (dec_lt (dist m v x) (word f.labels i))), omega (arith, near, no_less (dec_lt (dist m v x) (word f.labels i))))
     where
       v : ℕ
-      v = word vertices i
+      v = word f.vertices i
 
-      walk : Walk m v x (word labels i)
+      walk : Walk m v x (word f.labels i)
       walk = a.walked i l.is_place
 
       real : dist m v x ≡ FAR → ⊥
-      real far = (dist_exact m net v x (a.is_vertex i l.is_place)).far.0 far (word labels i) walk
+      real far = (dist_exact m net v x (a.is_vertex i l.is_place)).far.0 far (word f.labels i) walk
 
-      no_more : dist m v x ≤ word labels i
-      no_more = (dist_exact m net v x (a.is_vertex i l.is_place)).least (word labels i) walk
+      no_more : dist m v x ≤ word f.labels i
+      no_more = (dist_exact m net v x (a.is_vertex i l.is_place)).least (word f.labels i) walk
 
       near : dist m v x < FAR
       near = omega (arith, (dist_exact m net v x (a.is_vertex i l.is_place)).most real)
 
-      no_less : Dec (dist m v x < word labels i) → word labels i ≤ dist m v x
+      no_less : Dec (dist m v x < word f.labels i) → word f.labels i ≤ dist m v x
       no_less (no h) = omega (arith, h)
       no_less (yes less) =
-          let taken : word at v ≡ 255 = nearer_taken (word labels i) at labels vertices n a l.least ((dist_exact m net v x (a.is_vertex i l.is_place)).reached real) less in
+          let taken : word f.at v ≡ 255 = nearer_taken (word f.labels i) f a l.least ((dist_exact m net v x (a.is_vertex i l.is_place)).reached real) less in
           absurd (omega (arith, taken, a.placed i l.is_place, l.is_place, a.few))

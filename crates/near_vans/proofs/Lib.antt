@@ -1,5 +1,4 @@
 -- Laws that the functions cite.
-pub mod Steps
 pub mod Exact
 pub mod Taking
 pub mod Meeting

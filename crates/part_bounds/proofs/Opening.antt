@@ -15,12 +15,15 @@ use Rattle.words.proofs.Tests.{both_pass, left_true, right_true}
 use Rattle.far_sums.proofs.Lowering.{lowered_lesser, lowered_here, lowered_honest, lowered_where}
 use Rattle.cells.specs.Lowered.{lowered}
 use Rattle.listing.specs.Lists.{Among}
-use Rattle.layout.specs.Layout.{part_word}
-use Rattle.part_words.specs.Part.{rows_in}
+use Rattle.part_words.specs.Part.{rows_in, PartRead}
+use Rattle.part_words.specs.declared.part.PartRows.{PartRows}
+use Rattle.row_lists.specs.declared.lists.RowLists.{RowLists}
 use Rattle.row_lists.specs.Rows.{owner_at, child_at, below_at, near_at, Apart, is_known, is_asked, AskedRow, RowsLooked}
 use Rattle.row_distances.specs.Distances.{Closer}
 use Rattle.row_distances.proofs.Relaxing.{closer_named}
 use Rattle.part_keys.specs.Keys.{key_of, Spread}
+use Rattle.part_keys.specs.Spread.{Spreads}
+use Rattle.part_keys.specs.declared.waiting.PartsWaiting.{PartsWaiting}
 use Rattle.part_bounds.specs.Bounds.{GivenRow, OpenedUp}
 
 -- rows whose distances stay give the same keys
@@ -47,12 +50,6 @@ spread_kept {mem} {first} {dx} dx' same s =
       differ = s.differ;
     }
 
--- keys given from where others were given
-pub spread_from : {mem : List ℕ} {first : ℕ} {dx : List ℕ} {Given : ℕ → Type 0} {keys keys₁ waits waits₁ : List ℕ} {n n₁ : ℕ} {keys' waits' : List ℕ} {n' : ℕ} → keys ≡ keys₁ → waits ≡ waits₁ → n ≡ n₁
-    → Spread mem first dx Given keys waits n keys' waits' n' → Spread mem first dx Given keys₁ waits₁ n₁ keys' waits' n'
-spread_from {mem} {first} {dx} {Given} {keys} {keys₁} {waits} {waits₁} {n} {n₁} {keys'} {waits'} {n'} k w e s =
-    subst (λ (a : List ℕ). Spread mem first dx Given a waits₁ n₁ keys' waits' n') k (subst (λ (a : List ℕ). Spread mem first dx Given keys a n₁ keys' waits' n') w (subst (λ (a : ℕ). Spread mem first dx Given keys waits a keys' waits' n') e s))
-
 pub not-true : (b : Bool) → not b ≡ true → b ≡ false
 not-true true e = sym e
 not-true false e = refl
@@ -61,33 +58,33 @@ pub not-false : (b : Bool) → not b ≡ false → b ≡ true
 not-false true e = refl
 not-false false e = sym e
 
-module _ (all : Bool) {mem : List ℕ} {first : ℕ} {dx : List ℕ} {size : ℕ} {places near : List ℕ} {known : ℕ} {asked : List ℕ} {count : ℕ} (l : RowsLooked mem first dx (is_asked all mem first dx) size places near known asked count)
+module _ (all : Bool) {mem : List ℕ} {first : ℕ} {dx : List ℕ} {size : ℕ} {lists : RowLists} (l : RowsLooked mem first dx (is_asked all mem first dx) size lists)
     (apart : Apart mem first size) where
   -- a row that is asked for has no distance, and a known one has
-  asked_far : (t : ℕ) → t < count → FAR ≤ near_at mem first dx (word asked t)
+  asked_far : (t : ℕ) → t < lists.count → FAR ≤ near_at mem first dx (word lists.asked t)
   unfolding is_asked
-  asked_far t h = by (dec_lt (near_at mem first dx (word asked t)) FAR)
+  asked_far t h = by (dec_lt (near_at mem first dx (word lists.asked t)) FAR)
     where
-      known' : near_at mem first dx (word asked t) < FAR → is_asked all mem first dx (word asked t) ≡ false
-      known' some = rw (lt-leb FAR (near_at mem first dx (word asked t)) some)
+      known' : near_at mem first dx (word lists.asked t) < FAR → is_asked all mem first dx (word lists.asked t) ≡ false
+      known' some = rw (lt-leb FAR (near_at mem first dx (word lists.asked t)) some)
 
-      by : Dec (near_at mem first dx (word asked t) < FAR) → FAR ≤ near_at mem first dx (word asked t)
+      by : Dec (near_at mem first dx (word lists.asked t) < FAR) → FAR ≤ near_at mem first dx (word lists.asked t)
       by (no far) = omega (arith, far)
       by (yes some) = absurd (true≢false (sym (l.asks.only t h).1 ∙ known' some))
 
-  known_near : (t : ℕ) → t < known → near_at mem first dx (word places t) < FAR
+  known_near : (t : ℕ) → t < lists.known → near_at mem first dx (word lists.places t) < FAR
   unfolding is_known
-  known_near t h = by (dec_lt (near_at mem first dx (word places t)) FAR)
+  known_near t h = by (dec_lt (near_at mem first dx (word lists.places t)) FAR)
     where
-      by : Dec (near_at mem first dx (word places t) < FAR) → near_at mem first dx (word places t) < FAR
+      by : Dec (near_at mem first dx (word lists.places t) < FAR) → near_at mem first dx (word lists.places t) < FAR
       by (yes some) = some
-      by (no far) = absurd (true≢false (sym (l.knows.only t h).1 ∙ le-ltb (near_at mem first dx (word places t)) FAR (omega (arith, far))))
+      by (no far) = absurd (true≢false (sym (l.knows.only t h).1 ∙ le-ltb (near_at mem first dx (word lists.places t)) FAR (omega (arith, far))))
 
   -- the distances of known rows stay
-  pub known_kept : {table : ℕ} {dx' : List ℕ} → Closer mem first table size dx (Among asked count) dx' → (r : ℕ) → Among places known r → near_at mem first dx r ≡ near_at mem first dx' r
+  pub known_kept : {table : ℕ} {dx' : List ℕ} → Closer mem first table size dx (Among lists.asked lists.count) dx' → (r : ℕ) → Among lists.places lists.known r → near_at mem first dx r ≡ near_at mem first dx' r
   known_kept {table} {dx'} c r (s, hs, e) = ⊎_elim sym (λ (i, (t, ht, is), owner). absurd (none i t ht is owner)) (c.changed (owner_at mem first r))
     where
-      none : (i t : ℕ) → t < count → word asked t ≡ i → owner_at mem first i ≡ owner_at mem first r → ⊥
+      none : (i t : ℕ) → t < lists.count → word lists.asked t ≡ i → owner_at mem first i ≡ owner_at mem first r → ⊥
       none i t ht is owner =
           let same : i ≡ r = apart i r (omega (arith, (l.asks.only t ht).0, is)) (omega (arith, (l.knows.only s hs).0, e)) owner in
           omega (arith, asked_far t ht, ap (near_at mem first dx) (is ∙ same), known_near s hs, ap (near_at mem first dx) e)
@@ -97,7 +94,7 @@ module _ (all : Bool) {mem : List ℕ} {first : ℕ} {dx : List ℕ} {size : ℕ
   far_asked every i far = both_pass _ _ (le-leb FAR (near_at mem first dx i) far) (left_true all _ every)
 
   -- where all rows are asked for, those that had no distance are listed, and give keys
-  pub spread_asked : all ≡ true → {dx' keys waits : List ℕ} {n : ℕ} {keys' waits' : List ℕ} {n' : ℕ} → Spread mem first dx' (Among asked count) keys waits n keys' waits' n'
+  pub spread_asked : all ≡ true → {dx' keys waits : List ℕ} {n : ℕ} {keys' waits' : List ℕ} {n' : ℕ} → Spread mem first dx' (Among lists.asked lists.count) keys waits n keys' waits' n'
       → Spread mem first dx' (GivenRow all mem first size dx) keys waits n keys' waits' n'
   spread_asked every s =
       record {
@@ -117,9 +114,9 @@ module _ (all : Bool) {mem : List ℕ} {first : ℕ} {dx : List ℕ} {size : ℕ
       }
 
   -- The next of those that are asked for is written.
-  module _ {table t : ℕ} {dx' : List ℕ} (c : Closer mem first table size dx (Among asked t) dx') (ht : t < count) {i : ℕ} (is_row : i ≡ word asked t) where
+  module _ {table t : ℕ} {dx' : List ℕ} (c : Closer mem first table size dx (Among lists.asked t) dx') (ht : t < lists.count) {i : ℕ} (is_row : i ≡ word lists.asked t) where
     -- it is none of those before it
-    before_other : (r : ℕ) → Among asked t r → owner_at mem first r ≡ owner_at mem first i → ⊥
+    before_other : (r : ℕ) → Among lists.asked t r → owner_at mem first r ≡ owner_at mem first i → ⊥
     before_other r (s, hs, e) owner =
         let same : r ≡ i = apart r i (omega (arith, (l.asks.only s (omega arith)).0, e)) (omega (arith, (l.asks.only t ht).0, is_row)) owner in
         omega (arith, same, l.asks.rise s t hs ht, e, is_row)
@@ -148,22 +145,22 @@ module _ (all : Bool) {mem : List ℕ} {first : ℕ} {dx : List ℕ} {size : ℕ
             lowered_honest dx' (owner_at mem first i) way way (owner_at mem first i) (omega (arith, still_far)) (λ e. omega arith),
           )
 
-      pub before_kept : (r : ℕ) → Among asked t r → near_at mem first dx' r ≡ near_at mem first dx'' r
+      pub before_kept : (r : ℕ) → Among lists.asked t r → near_at mem first dx' r ≡ near_at mem first dx'' r
       before_kept r among = ⊎_elim
           (λ same. sym (after_word (owner_at mem first r) ∙ same))
           (λ owner. absurd (before_other r among owner))
           (lowered_where dx' (owner_at mem first i) way (owner_at mem first r))
 
 -- The rows of two lists have given keys, and no other has one to give.
-module _ {mem : List ℕ} {first : ℕ} (all : Bool) {dx : List ℕ} {size : ℕ} {places near : List ℕ} {known : ℕ} {asked : List ℕ} {count : ℕ} (l : RowsLooked mem first dx (is_asked all mem first dx) size places near known asked count)
+module _ {mem : List ℕ} {first : ℕ} (all : Bool) {dx : List ℕ} {size : ℕ} {lists : RowLists} (l : RowsLooked mem first dx (is_asked all mem first dx) size lists)
     {dx' : List ℕ} {keys waits : List ℕ} {n : ℕ} {keys₁ waits₁ : List ℕ} {n₁ : ℕ} {keys₂ waits₂ : List ℕ} {n₂ : ℕ}
-    (s : Spread mem first dx' (Among places known) keys waits n keys₁ waits₁ n₁) (s₂ : Spread mem first dx' (Among asked count) keys₁ waits₁ n₁ keys₂ waits₂ n₂) where
+    (s : Spread mem first dx' (Among lists.places lists.known) keys waits n keys₁ waits₁ n₁) (s₂ : Spread mem first dx' (Among lists.asked lists.count) keys₁ waits₁ n₁ keys₂ waits₂ n₂) where
   -- a row that has a key to give is known, or is asked for
-  listed : (i : ℕ) → i < size → key_of mem first dx' i < FAR → Among places known i ⊎ Among asked count i
+  listed : (i : ℕ) → i < size → key_of mem first dx' i < FAR → Among lists.places lists.known i ⊎ Among lists.asked lists.count i
   unfolding key_of is_known is_asked
   listed i hi real = by (dec_lt (near_at mem first dx i) FAR)
     where
-      by : Dec (near_at mem first dx i < FAR) → Among places known i ⊎ Among asked count i
+      by : Dec (near_at mem first dx i < FAR) → Among lists.places lists.known i ⊎ Among lists.asked lists.count i
       by (yes some) = inl (l.knows.all i hi (lt-ltb _ FAR some))
       by (no none) = inr (l.asks.all i hi (both_pass _ _ (le-leb FAR (near_at mem first dx i) (omega (arith, none))) (right_true all _ (lt-ltb (below_at mem first i) FAR (omega arith)))))
 
@@ -217,9 +214,9 @@ module _ {mem : List ℕ} {first : ℕ} (all : Bool) {dx : List ℕ} {size : ℕ
           omega (arith, first_key t low first', ap (word keys₁) (same ∙ e), fresh)
 
 -- under the names of a part's words
-pub opened_of : {mem : List ℕ} (p : ℕ) {first table size : ℕ} {all : Bool} {dx keys waits : List ℕ} {n : ℕ} {dx' keys' waits' : List ℕ} {n' : ℕ} → first ≡ part_word mem p 2 → table ≡ part_word mem p 3 → size ≡ rows_in mem p
-    → Closer mem first table size dx (AskedRow all mem first size dx) dx' → Spread mem first dx' (GivenRow all mem first size dx) keys waits n keys' waits' n' → OpenedUp mem p all dx keys waits n dx' keys' waits' n'
-opened_of {mem} p {first} {all = all} {dx} {keys} {waits} {n} {dx'} {keys'} {waits'} {n'} isFirst isTable isSize c s = (
-  closer_named (λ a b. AskedRow all mem a b dx) isFirst isTable isSize c,
-  subst (λ (a : ℕ). Spread mem a dx' (GivenRow all mem a (rows_in mem p) dx) keys waits n keys' waits' n') isFirst (subst (λ (a : ℕ). Spread mem first dx' (GivenRow all mem first a dx) keys waits n keys' waits' n') isSize s),
+pub opened_of : {mem : List ℕ} (p : ℕ) {part : PartRows} {all : Bool} {dx : List ℕ} (waiting : PartsWaiting) {dx' : List ℕ} (waiting' : PartsWaiting) → PartRead mem p part
+    → Closer mem part.first part.table part.size dx (AskedRow all mem part.first part.size dx) dx' → Spreads mem part.first dx' (GivenRow all mem part.first part.size dx) waiting waiting' → OpenedUp mem p all dx waiting dx' waiting'
+opened_of {mem} p {part} {all} {dx} waiting {dx'} waiting' read c s = (
+  closer_named (λ a b. AskedRow all mem a b dx) read.first_is read.table_is read.size_is c,
+  subst (λ (a : ℕ). Spreads mem a dx' (GivenRow all mem a (rows_in mem p) dx) waiting waiting') read.first_is (subst (λ (a : ℕ). Spreads mem part.first dx' (GivenRow all mem part.first a dx) waiting waiting') read.size_is s),
 )

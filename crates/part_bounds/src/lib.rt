@@ -1,59 +1,60 @@
 // A part opened up: its rows get their distances to the vertex asked at, and its children the keys that these give, which bound what lies in them.
 #![tactic(auto)]
 
-ghost use Rattle.std.specs.Prelude.{◌≡◌, Bool, ◌+◌, ◌*◌, ◌≤◌, ◌<◌, ◌^◌, length};
-ghost use Rattle.layout.specs.Layout.{words_in_row};
+ghost use Rattle.std.specs.Prelude.{◌≡◌, Bool, ◌&&◌, ◌||◌, ◌+◌, ◌≤◌, leb, ltb};
+ghost use Rattle.words.specs.Limits.{FAR};
 ghost use Rattle.listing.specs.Lists.{Among};
+ghost use Rattle.part_words.specs.Part.{Within};
 ghost use Rattle.row_lists.specs.Rows.{Fits, Apart, RowsLooked, is_asked};
 ghost use Rattle.row_distances.specs.Distances.{Closer};
-ghost use Rattle.part_keys.specs.Keys.{far_count, Spread};
+ghost use Rattle.part_keys.specs.Keys.{far_count};
+ghost use Rattle.part_keys.specs.Spread.{Spreads};
 ghost use Rattle.part_bounds.specs.Bounds.{OpenedUp};
 
 use cells::{put, wide, word};
-use far_sums::far_sum;
+use far_sums::{FAR, far_sum};
 use layout::RowRecord;
-use part_keys::{lower_key, spread_known};
-use part_words::part_rows;
+use part_keys::{PartsWaiting, lower_key, spread_known};
+use part_words::{PartRows, part_rows};
 use row_distances::least_in;
-use row_lists::look;
+use row_lists::{RowLists, line_of, look, rows_of};
 
-// The rows that are asked for, listed as `look` does: each gets as little as a way by way of a row makes it, and gives its child a key at once.
+// The rows that are asked for, listed by `look`: each gets as little as a way by way of a row makes it, and gives its child a key at once.
 fn relax_spread(
     mem: &[u32],
-    first: usize,
-    table: usize,
-    size: usize,
+    part: PartRows,
     dx: &mut [u32],
-    places: &[u32; 128],
-    near: &[u32; 128],
-    known: usize,
-    asked: &[u32; 128],
-    count: usize,
-    keys: &mut [u32; 512],
-    waits: &mut [u32],
-    n: usize,
-) -> usize
-    requires { (first < 2 ^ 32) × (table < 2 ^ 32) × (size ≤ 128) × (first + words_in_row * size ≤ length mem.now) × (table + size * size ≤ length mem.now) × ((all : Bool) × RowsLooked mem.now first dx.old (is_asked all mem.now first dx.old) size places.now near.now known asked.now count) × (far_count keys.old + n ≤ 512) × (length waits.old ≡ 512) }
-    ensures { (far_count keys.new + result ≤ far_count keys.old + n) × (Apart mem.now first size → Closer mem.now first table size dx.old (Among asked.now count) dx.new × Spread mem.now first dx.new (Among asked.now count) keys.old waits.old n keys.new waits.new result) }
+    lists: &RowLists,
+    waiting: &mut PartsWaiting,
+)
+    requires { Within mem.now part × ((all : Bool) × RowsLooked mem.now part.first dx.old (is_asked all mem.now part.first dx.old) part.size lists.now) }
+    ensures { (far_count waiting.new.keys + waiting.new.n ≤ far_count waiting.old.keys + waiting.old.n) × (Apart mem.now part.first part.size → Closer mem.now part.first part.table part.size dx.old (Among lists.now.asked lists.now.count) dx.new × Spreads mem.now part.first dx.new (Among lists.now.asked lists.now.count) waiting.old waiting.new) }
 {
-    let end = first + RowRecord::WORDS * size;
-    let rows = &mem[first..end];
-    let mut waiting = n;
-    let mut t = 0;
-    while t < count {
-        let i = wide(word(asked, t));
-        let at = table + size * i;
-        let past = at + size;
-        let row = &mem[at..past];
-        let way = least_in(row, places, near, known);
+    let rows = rows_of(mem, part);
+    let mut n = waiting.n;
+    for &asked in lists.asked() {
+        let i = wide(asked);
+        let way = least_in(line_of(mem, part, i), lists);
         let owner = rows[RowRecord::WORDS * i + RowRecord::OWN];
         let below = wide(rows[RowRecord::WORDS * i + RowRecord::BELOW]);
         put(dx, wide(owner % RowRecord::CHILD), way);
         let key = far_sum(word(mem, below + RowRecord::DISTANCE), way);
-        waiting = lower_key(keys, waits, waiting, owner / RowRecord::CHILD, key);
-        t += 1;
+        n = lower_key(
+            &mut waiting.keys,
+            &mut waiting.waits,
+            n,
+            owner / RowRecord::CHILD,
+            key,
+        );
     }
-    waiting
+    waiting.n = n;
+}
+
+// A row's distance is asked for, where `near` is its vertex's distance so far and `shown` the distance that the row further down shows.
+fn is_asked(near: u32, shown: u32, all: bool) -> bool
+    ensures { result ≡ (leb FAR near && (all || ltb shown FAR)) }
+{
+    FAR <= near && (all || shown < FAR)
 }
 
 // A part's rows get their distances, and its children the keys that these give: what is not listed has none to give. Where all rows are asked for, those that had
@@ -63,31 +64,19 @@ pub fn open_up(
     part: u32,
     all: bool,
     dx: &mut [u32],
-    keys: &mut [u32; 512],
-    waits: &mut [u32; 512],
-    n: usize,
-    places: &mut [u32; 128],
-    near: &mut [u32; 128],
-    asked: &mut [u32; 128],
-) -> usize
-    requires { far_count keys.old + n ≤ 512 }
-    ensures { (far_count keys.new + result ≤ far_count keys.old + n) × (Fits mem.now part → OpenedUp mem.now part all dx.old keys.old waits.old n dx.new keys.new waits.new result) }
+    lists: &mut RowLists,
+    waiting: &mut PartsWaiting,
+)
+    ensures { (far_count waiting.new.keys + waiting.new.n ≤ far_count waiting.old.keys + waiting.old.n) × (Fits mem.now part → OpenedUp mem.now part all dx.old waiting.old dx.new waiting.new) }
 {
-    let read = part_rows(mem, wide(part));
-    if read.within {
-        let first = read.first;
-        let size = read.size;
-        let listed = look(mem, first, size, all, dx, places, near, asked);
-        let known = listed.known;
-        let count = listed.asked;
-        let mut joined = n;
-        if !all {
-            joined = spread_known(mem, first, size, places, near, known, keys, waits, n);
-        }
-        return relax_spread(
-            mem, first, read.table, size, dx, places, near, known, asked, count, keys, waits,
-            joined,
-        );
+    let Some(part) = part_rows(mem, part) else {
+        return;
+    };
+    look(mem, part, dx, lists, |near, _, below| {
+        is_asked(near, word(mem, wide(below) + RowRecord::DISTANCE), all)
+    });
+    if !all {
+        spread_known(mem, part, lists, waiting);
     }
-    n
+    relax_spread(mem, part, dx, lists, waiting);
 }

@@ -248,20 +248,9 @@ module _ {mem : List ℕ} {first : ℕ} {dx : List ℕ} (list : List ℕ) where
         by (joins near none next-count) = join near none next-count
         by (stays why same_count) = stay why same_count
 
-  pub spread_all : {t count : ℕ} {keys waits : List ℕ} {n : ℕ} {keys' waits' : List ℕ} {n' : ℕ} → Spread mem first dx (Among list t) keys waits n keys' waits' n' → t ≤ count → count ≤ t
+  pub spread_count : {t count : ℕ} {keys waits : List ℕ} {n : ℕ} {keys' waits' : List ℕ} {n' : ℕ} → t ≡ count → Spread mem first dx (Among list t) keys waits n keys' waits' n'
       → Spread mem first dx (Among list count) keys waits n keys' waits' n'
-  spread_all {t} {count} {keys} {waits} {n} {keys'} {waits'} {n'} s low high =
-      let same : t ≡ count = omega arith in
-      subst (λ (k : ℕ). Spread mem first dx (Among list k) keys waits n keys' waits' n') same s
-
--- a test after another
-pub and_false : (b : Bool) → false ≡ (b && false)
-and_false true = refl
-and_false false = refl
-
-pub and_true : (b : Bool) → b ≡ (b && true)
-and_true true = refl
-and_true false = refl
+  spread_count {keys = keys} {waits} {n} {keys'} {waits'} {n'} same s = subst (λ (k : ℕ). Spread mem first dx (Among list k) keys waits n keys' waits' n') same s
 
 -- what `lower_key` leaves
 pub key_lowered : (keys : List ℕ) (key : ℕ) {at old part least : ℕ} {keys' : List ℕ} → at ≡ part → old ≡ word keys at → least ≡ min key old → keys' ≡ set keys at least → keys' ≡ lowered keys part key

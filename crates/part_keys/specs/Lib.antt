@@ -1,2 +1,3 @@
 -- Keys that rows give to parts, and the parts that wait.
 pub mod Keys
+pub mod Spread

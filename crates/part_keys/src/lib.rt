@@ -1,34 +1,37 @@
 // Keys of parts, and the parts that wait: a row whose vertex has a distance gives the child that it lies in a key, and a child that had none joins those that wait.
 #![tactic(auto)]
 
-ghost use Rattle.std.specs.Prelude.{◌≡◌, cond, ◌&&◌, List, ℕ, ◌+◌, ◌*◌, ◌≤◌, ◌<◌, ◌^◌, length, set, leb, ltb};
+ghost use Rattle.std.specs.Prelude.{◌≡◌, cond, ◌&&◌, List, ℕ, ◌+◌, ◌*◌, ◌≤◌, ◌<◌, length, set, leb, ltb};
 ghost use Rattle.layout.specs.Layout.{words_in_row};
 ghost use Rattle.words.specs.Limits.{FAR};
 ghost use Rattle.words.specs.Lists.{word};
 ghost use Rattle.cells.specs.Lowered.{lowered};
 ghost use Rattle.listing.specs.Lists.{Among};
 ghost use Rattle.row_lists.specs.Rows.{Nears};
-ghost use Rattle.part_keys.specs.Keys.{is_new, far_count, Spread, Nearest};
+ghost use Rattle.part_keys.specs.Keys.{is_new, far_count};
+ghost use Rattle.part_keys.specs.Spread.{Spreads};
 
-use cells::{lesser, more, put, wide, word};
+use cells::{more, put, wide, word};
 use far_sums::{FAR, far_sum};
 use layout::RowRecord;
+use part_words::PartRows;
+use row_lists::{RowLists, rows_of};
+pub use waiting::{PartsWaiting, Waiting};
+
+mod waiting;
 
 // A part whose key was `old` joins those that wait when it gets this one.
 fn joins(old: u32, key: u32) -> bool
     ensures { result ≡ (ltb key FAR && leb FAR old) }
 {
-    if old < FAR {
-        return false;
-    }
-    key < FAR
+    key < FAR && FAR <= old
 }
 
 // A part's key made less, where `key` is less. A part that had none joins those that wait: the word behind the last of them is written in any case, and counts if
-// the part is new.
+// the part is new. How many wait is kept beside the arrays from row to row, not stored for each.
 pub fn lower_key(
     keys: &mut [u32; 512],
-    waits: &mut [u32],
+    waits: &mut [u32; 512],
     count: usize,
     part: u32,
     key: u32,
@@ -38,62 +41,31 @@ pub fn lower_key(
 {
     let at = wide(part);
     let old = word(keys, at);
-    put(keys, at, lesser(key, old));
+    put(keys, at, key.min(old));
     put(waits, count, part);
     more(count, joins(old, key))
 }
 
 // Each of the known rows gives the child that it lies in a key: no active vertex of the child is nearer by way of that row. The key is the distance that the row
 // further down shows, and on from there.
-pub fn spread_known(
-    mem: &[u32],
-    first: usize,
-    size: usize,
-    places: &[u32; 128],
-    near: &[u32; 128],
-    count: usize,
-    keys: &mut [u32; 512],
-    waits: &mut [u32],
-    n: usize,
-) -> usize
-    requires { (first < 2 ^ 32) × (size ≤ 128) × (first + words_in_row * size ≤ length mem.now) × (far_count keys.old + n ≤ 512) × (length waits.old ≡ 512) × ((t : ℕ) → t < count → word places.now t < size) × ((dx : List ℕ) × Nears mem.now first dx places.now near.now count) }
-    ensures { (dx : List ℕ) → Nears mem.now first dx places.now near.now count → Spread mem.now first dx (Among places.now count) keys.old waits.old n keys.new waits.new result }
+pub fn spread_known(mem: &[u32], part: PartRows, lists: &RowLists, waiting: &mut PartsWaiting)
+    requires { (part.first + words_in_row * part.size ≤ length mem.now) × ((t : ℕ) → t < lists.now.known → word lists.now.places t < part.size) }
+    ensures { (far_count waiting.new.keys + waiting.new.n ≤ far_count waiting.old.keys + waiting.old.n) × ((dx : List ℕ) → Nears mem.now part.first dx lists.now.places lists.now.near lists.now.known → Spreads mem.now part.first dx (Among lists.now.places lists.now.known) waiting.old waiting.new) }
 {
-    let end = first + RowRecord::WORDS * size;
-    let rows = &mem[first..end];
-    let mut waiting = n;
-    let mut t = 0;
-    while t < count {
-        let i = wide(word(places, t));
+    let rows = rows_of(mem, part);
+    let mut n = waiting.n;
+    for (&place, &near) in lists.places().iter().zip(lists.near()) {
+        let i = wide(place);
         let owner = rows[RowRecord::WORDS * i + RowRecord::OWN];
         let below = wide(rows[RowRecord::WORDS * i + RowRecord::BELOW]);
-        let key = far_sum(word(mem, below + RowRecord::DISTANCE), word(near, t));
-        waiting = lower_key(keys, waits, waiting, owner / RowRecord::CHILD, key);
-        t += 1;
+        let key = far_sum(word(mem, below + RowRecord::DISTANCE), near);
+        n = lower_key(
+            &mut waiting.keys,
+            &mut waiting.waits,
+            n,
+            owner / RowRecord::CHILD,
+            key,
+        );
     }
-    waiting
-}
-
-// The least key of the parts that wait, from the one at `from` on, and its place.
-#[derive(Clone, Copy)]
-pub struct Waiting {
-    pub at: usize,
-    pub key: u32,
-}
-
-pub fn nearest_waiting(keys: &[u32; 512], waits: &[u32; 512], from: usize, n: usize) -> Waiting
-    ensures { Nearest keys.now waits.now from n result.key result.at }
-{
-    let mut least = FAR;
-    let mut at = from;
-    let mut t = from;
-    while t < n {
-        let key = word(keys, wide(word(waits, t)));
-        if key < least {
-            least = key;
-            at = t;
-        }
-        t += 1;
-    }
-    Waiting { at: at, key: least }
+    waiting.n = n;
 }

@@ -1,7 +1,7 @@
 -- Rows and a table that lie within the memory, by the test and by what it means.
 -- Assumes nothing.
-use mathlib.Core.Path.{◌≡◌, sym, ◌∙◌, subst}
-use mathlib.Core.Bool.{Bool, true, false, true≢false}
+use mathlib.Core.Path.{◌≡◌, sym, ◌∙◌}
+use mathlib.Core.Bool.{true, false, true≢false}
 use mathlib.Core.List.{List}
 use Prim.Native.Nat.{ℕ, ◌+◌, ◌*◌, ◌≤◌, ◌<◌}
 use native.Mathlib.Nat.{mul-suc, mul-le-mul_left}
@@ -9,7 +9,7 @@ use native.Mathlib.Decide.{dec_le}
 use native.Mathlib.Omega.{arith}
 use lib.ListN.{length}
 use borrow.Author.Tests.{le-leb, lt-leb}
-use Rattle.part_words.specs.Part.{fits, PartRead}
+use Rattle.part_words.specs.Part.{fits}
 
 pub square_most : (n : ℕ) → n ≤ 128 → n * n ≤ 16384
 square_most n h = omega (arith, mul-le-mul_left {m = n} {n = 128} n h)
@@ -36,11 +36,3 @@ module _ (mem : List ℕ) (rows table size : ℕ) where
       by (yes hr) (yes ht) = (hr, ht)
       by (yes hr) (no ht) = absurd (out (rw (le-leb (rows + 4 * size) (length mem) hr, lt-leb (table + size * size) (length mem) (omega (arith, ht)))))
       by (no hr) t = absurd (out (rw (lt-leb (rows + 4 * size) (length mem) (omega (arith, hr)))))
-
--- what was read of a part, under the part's own name, and what passes the test lies within
-module _ {mem : List ℕ} {p size first table : ℕ} {within : Bool} (read : PartRead mem p size first table within) where
-  pub read_of : {q : ℕ} → p ≡ q → PartRead mem q size first table within
-  read_of same = subst (λ (k : ℕ). PartRead mem k size first table within) same read
-
-  pub read_inside : within ≡ true → (first + 4 * size ≤ length mem) × (table + size * size ≤ length mem)
-  read_inside is = fits_inside mem first table size (sym read.within_is ∙ is)

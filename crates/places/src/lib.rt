@@ -2,6 +2,7 @@
 #![tactic(auto)]
 
 ghost use Rattle.std.specs.Prelude.{◌≡◌};
+ghost use Rattle.layout.specs.Layout.{vertices_from, roads_from, vans_from};
 ghost use Rattle.places.specs.Place.{counts_in, vertex_address, road_address, van_address};
 
 use cells::{wide, word};
@@ -19,27 +20,39 @@ pub fn counts_in(mem: &[u32]) -> Counts
     }
 }
 
+// Where the vertices start.
+pub fn vertices_from(counts: Counts) -> usize
+    ensures { result ≡ vertices_from counts.parts }
+{
+    HeadRecord::WORDS + PartRecord::WORDS * wide(counts.parts)
+}
+
+pub fn roads_from(counts: Counts) -> usize
+    ensures { result ≡ roads_from counts.parts counts.vertices }
+{
+    vertices_from(counts) + VertexRecord::WORDS * wide(counts.vertices)
+}
+
+pub fn vans_from(counts: Counts) -> usize
+    ensures { result ≡ vans_from counts.parts counts.vertices counts.roads }
+{
+    roads_from(counts) + RoadRecord::WORDS * wide(counts.roads)
+}
+
 pub fn vertex_at(counts: Counts, vertex: u32) -> usize
     ensures { result ≡ vertex_address counts vertex }
 {
-    HeadRecord::WORDS + PartRecord::WORDS * wide(counts.parts) + VertexRecord::WORDS * wide(vertex)
+    vertices_from(counts) + VertexRecord::WORDS * wide(vertex)
 }
 
 pub fn road_at(counts: Counts, road: u32) -> usize
     ensures { result ≡ road_address counts road }
 {
-    HeadRecord::WORDS
-        + PartRecord::WORDS * wide(counts.parts)
-        + VertexRecord::WORDS * wide(counts.vertices)
-        + RoadRecord::WORDS * wide(road)
+    roads_from(counts) + RoadRecord::WORDS * wide(road)
 }
 
 pub fn van_at(counts: Counts, van: u32) -> usize
     ensures { result ≡ van_address counts van }
 {
-    HeadRecord::WORDS
-        + PartRecord::WORDS * wide(counts.parts)
-        + VertexRecord::WORDS * wide(counts.vertices)
-        + RoadRecord::WORDS * wide(counts.roads)
-        + VanRecord::WORDS * wide(van)
+    vans_from(counts) + VanRecord::WORDS * wide(van)
 }

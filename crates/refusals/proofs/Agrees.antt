@@ -14,6 +14,8 @@ use Rattle.words.specs.Tests.{◌unless◌then◌}
 use Rattle.words.proofs.Tests.{true_or_false}
 use Rattle.roads.specs.Map.{Map, road_at, road_count, road_between}
 use Rattle.maps.specs.Sound.{Sound}
+use Rattle.std.specs.Prelude.{Result, Ok, Err}
+use Rattle.answers.specs.declared.Refusal.{Refusal}
 use Rattle.answers.specs.Answered.{answered}
 use Rattle.counts.specs.declared.Counts.{Counts}
 use Rattle.fleet.specs.State.{Van, Slot, absent, present, State, slot_of, is_present, is_free, is_held_by, has_stamp}
@@ -22,18 +24,14 @@ use Rattle.fleet.specs.declared.Change.TheVariants.{Add, Move, Remove, Claim, Re
 use Rattle.fleet.specs.Change.{refused, in_range, is_road, missing, offset_fits, count_left, own_refusal, refusal_of, van_of, slot_after}
 use Rattle.van_lists.specs.declared.VanWords.{VanWords}
 use Rattle.van_lists.specs.Slot.{standing_words, stamped}
-use Rattle.road_lookup.specs.declared.Lookup.{Lookup}
-use Rattle.road_lookup.specs.declared.Lookup.TheVariants.{Found}
 use Rattle.road_lookup.specs.Lookup.{RoadsKnown}
 use Rattle.road_lookup.specs.Answer.{lookup_of}
-use Rattle.refusals.specs.declared.Verdict.{Verdict}
-use Rattle.refusals.specs.declared.Verdict.TheVariants.{Refuse, Stand}
-use Rattle.refusals.specs.Verdict.{weight_in, placing, adding, moving, removing, claiming, releasing, OnRoad, HasVerdict}
+use Rattle.refusals.specs.Verdict.{Verdict, weight_in, placing, removing, claiming, releasing, Adding, Moving, HasVerdict}
 
 -- a refusal is the definitions' refusal; a van that is to stand is refused by the change count alone, and stands as the definitions say
 abbrev pub VerdictAgrees : Map → State → Change → Verdict → Type 0
-VerdictAgrees m s c (Refuse r) = (k : ℕ) × (refusal_of m s c ≡ suc k) × (answered r ≡ refused (suc k))
-VerdictAgrees m s c (Stand w) = (refusal_of m s c ≡ (15 unless count_left s then 0)) × ((stamp : ℕ) → stamped w stamp ≡ standing_words (slot_after m c stamp (slot_of s (van_of c))))
+VerdictAgrees m s c (Err r) = (k : ℕ) × (refusal_of m s c ≡ suc k) × (answered (Err r) ≡ refused (suc k))
+VerdictAgrees m s c (Ok w) = (refusal_of m s c ≡ (15 unless count_left s then 0)) × ((stamp : ℕ) → stamped w stamp ≡ standing_words (slot_after m c stamp (slot_of s (van_of c))))
 
 -- a van that is there keeps its words but for the stamp
 stamped_suc : (h road offset old stamp : ℕ) → ◌≡◌ {A = VanWords} (stamped (record { state = suc h; road = road; offset = offset; stamp = old }) stamp) (record { state = suc h; road = road; offset = offset; stamp = stamp })
@@ -44,19 +42,19 @@ module _ (m : Map) (s : State) (c : Change) where
   agrees_by verdict is e a = subst⁻¹ (VerdictAgrees m s c) e a
 
   -- on a road that is looked up: what is left to refuse is the road, the offset and the count
-  placing_agrees : (mem : List ℕ) (counts : Counts) (state u v offset : ℕ) (lookup : Lookup) → lookup ≡ lookup_of m u v
+  placing_agrees : (mem : List ℕ) (counts : Counts) (state u v offset : ℕ) (lookup : Result ℕ Refusal) → lookup ≡ lookup_of m u v
       → ((i : ℕ) → i < road_count m → weight_in mem counts i ≡ (road_at m i).weight)
       → refusal_of m s c ≡ (missing m u v unless is_road m u v then 11 unless offset_fits m u v offset then 15 unless count_left s then 0)
       → ((stamp : ℕ) → stamped (record { state = state; road = road_between m.roads u v; offset = offset; stamp = 0 }) stamp ≡ standing_words (slot_after m c stamp (slot_of s (van_of c))))
       → VerdictAgrees m s c (placing mem counts state lookup offset)
   placing_agrees mem counts state u v offset lookup found weights refusal stands =
-      subst⁻¹ (λ (l : Lookup). VerdictAgrees m s c (placing mem counts state l offset)) found
+      subst⁻¹ (λ (l : Result ℕ Refusal). VerdictAgrees m s c (placing mem counts state l offset)) found
       (elim (true_or_false (is_road m u v)) [
         | inl is_road_lem ↦ on_road is_road_lem
         | inr none ↦ elim (true_or_false (is_road m v u)) [ inl back ↦ wrong_way none back | inr neither ↦ no_road_lem none neither ]
       ])
     where
-      Placed : Lookup → Type 0
+      Placed : Result ℕ Refusal → Type 0
       Placed l = VerdictAgrees m s c (placing mem counts state l offset)
 
       no_road_lem : is_road m u v ≡ false → is_road m v u ≡ false → Placed (lookup_of m u v)
@@ -74,12 +72,12 @@ module _ (m : Map) (s : State) (c : Change) where
           weight_is : weight_in mem counts road ≡ (road_at m road).weight
           weight_is = weights road (ltb-true road (road_count m) is_road_lem)
 
-          too_far : weight_in mem counts road < offset → Placed (Found road)
+          too_far : weight_in mem counts road < offset → Placed (Ok road)
           too_far far =
               let above : offset_fits m u v offset ≡ false = lt-leb offset _ (omega (arith, weight_is)) in
               rw (lt-ltb (weight_in mem counts road) offset far) (10, refusal ∙ simp (is_road_lem, above), refl)
 
-          in_place : ¬ (weight_in mem counts road < offset) → Placed (Found road)
+          in_place : ¬ (weight_in mem counts road < offset) → Placed (Ok road)
           in_place near =
               let fits : offset_fits m u v offset ≡ true = le-leb offset _ (omega (arith, weight_is)) in
               rw (le-ltb (weight_in mem counts road) offset (omega arith)) (refusal ∙ simp (is_road_lem, fits), stands)
@@ -91,28 +89,30 @@ not_none v = ne_eqb (suc v.holder) 0 (omega arith)
 module _ (m : Map) (s : State) (mem : List ℕ) (counts : Counts) (sound : Sound m) (stand : RoadsKnown m counts mem)
     (weights : (i : ℕ) → i < road_count m → weight_in mem counts i ≡ (road_at m i).weight) where
   add_agrees : (van u v offset : ℕ) (slot : Slot) → slot_of s van ≡ slot → in_range (Add van u v offset) ≡ true → (verdict : Verdict)
-      → OnRoad mem counts u v (λ road. adding mem counts (standing_words slot) road offset) verdict → VerdictAgrees m s (Add van u v offset) verdict
+      → Adding mem counts (standing_words slot) u v offset verdict → VerdictAgrees m s (Add van u v offset) verdict
   unfolding refusal_of own_refusal slot_after
   add_agrees van u v offset (present w) is ok verdict j =
       let there : is_present (slot_of s van) ≡ true = ap is_present is in
-      agrees_by m s (Add van u v offset) verdict _ j.is (rw (not_none w) (8, simp (ok, there), refl))
+      agrees_by m s (Add van u v offset) verdict _ (j.there (λ e. omega arith)) (8, simp (ok, there), refl)
   add_agrees van u v offset absent is ok verdict j =
       let none : is_present (slot_of s van) ≡ false = ap is_present is in
-      agrees_by m s (Add van u v offset) verdict _ j.is
-      (placing_agrees m s (Add van u v offset) mem counts 1 u v offset j.road (j.found m sound stand) weights
+      let r = j.none refl in
+      agrees_by m s (Add van u v offset) verdict _ r.is
+      (placing_agrees m s (Add van u v offset) mem counts 1 u v offset r.road (r.found m sound stand) weights
       (simp (ok, none)) (λ stamp. rw is (stamped_suc 0 (road_between m.roads u v) offset 0 stamp)))
 
   move_agrees : (van u v offset : ℕ) (slot : Slot) → slot_of s van ≡ slot → in_range (Move van u v offset) ≡ true → (verdict : Verdict)
-      → OnRoad mem counts u v (λ road. moving mem counts (standing_words slot) road offset) verdict → VerdictAgrees m s (Move van u v offset) verdict
+      → Moving mem counts (standing_words slot) u v offset verdict → VerdictAgrees m s (Move van u v offset) verdict
   unfolding refusal_of own_refusal slot_after
   move_agrees van u v offset absent is ok verdict j =
       let none : is_present (slot_of s van) ≡ false = ap is_present is in
-      agrees_by m s (Move van u v offset) verdict _ j.is (7, simp (ok, none), refl)
+      agrees_by m s (Move van u v offset) verdict _ (j.none refl) (7, simp (ok, none), refl)
   move_agrees van u v offset (present w) is ok verdict j =
       let there : is_present (slot_of s van) ≡ true = ap is_present is in
-      agrees_by m s (Move van u v offset) verdict _ j.is
-      (rw (not_none w) (placing_agrees m s (Move van u v offset) mem counts (suc w.holder) u v offset j.road (j.found m sound stand) weights
-      (simp (ok, there)) (λ stamp. rw is (stamped_suc w.holder (road_between m.roads u v) offset 0 stamp))))
+      let r = j.there (λ e. omega arith) in
+      agrees_by m s (Move van u v offset) verdict _ r.is
+      (placing_agrees m s (Move van u v offset) mem counts (suc w.holder) u v offset r.road (r.found m sound stand) weights
+      (simp (ok, there)) (λ stamp. rw is (stamped_suc w.holder (road_between m.roads u v) offset 0 stamp)))
 
 module _ (m : Map) (s : State) where
   remove_agrees : (van : ℕ) (slot : Slot) → slot_of s van ≡ slot → in_range (Remove van) ≡ true → VerdictAgrees m s (Remove van) (removing (standing_words slot))
@@ -128,12 +128,12 @@ module _ (m : Map) (s : State) where
       goes : w.holder ≡ 0 → VerdictAgrees m s (Remove van) (removing (standing_words (present w)))
       goes free =
           let is_free_lem : is_free (slot_of s van) ≡ true = ap is_free is ∙ eq-eqb w.holder 0 free in
-          rw (not_none w, le-ltb 1 (suc w.holder) (omega arith)) (simp (ok, there, is_free_lem), λ stamp. refl)
+          rw (not_none w, eq-eqb (suc w.holder) 1 (omega arith)) (simp (ok, there, is_free_lem), λ stamp. refl)
 
       stays : (w.holder ≡ 0 → ⊥) → VerdictAgrees m s (Remove van) (removing (standing_words (present w)))
       stays held =
           let not_free : is_free (slot_of s van) ≡ false = ap is_free is ∙ ne_eqb w.holder 0 held in
-          rw (not_none w, lt-ltb 1 (suc w.holder) (omega arith)) (11, simp (ok, there, not_free), refl)
+          rw (not_none w, ne_eqb (suc w.holder) 1 (omega arith)) (11, simp (ok, there, not_free), refl)
 
   claim_agrees : (van stamp desk : ℕ) (slot : Slot) → slot_of s van ≡ slot → in_range (Claim van stamp desk) ≡ true → VerdictAgrees m s (Claim van stamp desk) (claiming (standing_words slot) stamp desk)
   unfolding refusal_of own_refusal slot_after

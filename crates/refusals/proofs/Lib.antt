@@ -1,4 +1,3 @@
 -- Laws of the verdicts.
-pub mod Ways
 pub mod Agrees
 pub mod Later

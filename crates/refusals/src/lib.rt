@@ -1,26 +1,18 @@
-// What a change gets, but for the head, the ranges and the change count: the first refusal that applies, or how the van is to stand. The memory is only
+// What a change gets, but for the head, the ranges and the change count: how the van is to stand, or the first refusal that applies. The memory is only
 // read. The tests are those of the definitions, on the words of the van and of the road; any words are taken.
 #![tactic(auto)]
 
 ghost use Rattle.std.specs.Prelude.{◌≡◌, ◌<◌};
-ghost use Rattle.fleet.specs.Change.{van_of};
-ghost use Rattle.refusals.specs.Verdict.{desk_of, weight_in, placing, adding, moving, removing, claiming, releasing, HasVerdict};
+ghost use Rattle.refusals.specs.Verdict.{desk_of, weight_in, placing, existing, free_one, removing, claiming, releasing, OnRoad, Adding, Moving, HasVerdict};
 
-use answers::Reply;
+use answers::Refusal;
 use cells::word;
 use counts::Counts;
 use fleet::Change;
 use layout::RoadRecord;
 use places::road_at;
-use road_lookup::{Lookup, look_up};
+use road_lookup::look_up;
 use van_lists::VanWords;
-
-// The stamp of a van that is to stand is not told here.
-#[derive(Clone, Copy)]
-pub enum Verdict {
-    Refuse(Reply),
-    Stand(VanWords),
-}
 
 fn road_weight(mem: &[u32], counts: Counts, road: u32) -> u32
     ensures { result ≡ weight_in mem.now counts road }
@@ -28,152 +20,143 @@ fn road_weight(mem: &[u32], counts: Counts, road: u32) -> u32
     word(mem, road_at(counts, road) + RoadRecord::WEIGHT)
 }
 
-// A place on the road that was looked up; the van's first word is `state`.
-fn placing(mem: &[u32], counts: Counts, state: u32, lookup: Lookup, offset: u32) -> Verdict
-    ensures { result ≡ placing mem.now counts state lookup offset }
+// A place on the road from `from` to `to`; the van's first word is `state`.
+fn placing(
+    mem: &[u32],
+    counts: Counts,
+    state: u32,
+    from: u32,
+    to: u32,
+    offset: u32,
+) -> Result<VanWords, Refusal>
+    ensures { OnRoad mem.now counts from to (λ road. placing mem.now counts state road offset) result }
 {
-    match lookup {
-        Lookup::Found(road) => {
-            if road_weight(mem, counts, road) < offset {
-                return Verdict::Refuse(Reply::OffsetAboveWeight);
-            }
-            Verdict::Stand(VanWords {
-                state,
-                road,
-                offset,
-                stamp: 0,
-            })
-        }
-        Lookup::OtherWay => Verdict::Refuse(Reply::WrongWay),
-        Lookup::Neither => Verdict::Refuse(Reply::NoRoad),
+    let road = look_up(mem, counts, from, to)?;
+    if road_weight(mem, counts, road) < offset {
+        return Err(Refusal::OffsetAboveWeight);
+    }
+    Ok(VanWords {
+        state,
+        road,
+        offset,
+        stamp: 0,
+    })
+}
+
+// The van, if it is there.
+fn existing(old: VanWords) -> Result<VanWords, Refusal>
+    ensures { result ≡ existing old }
+{
+    if old.state == 0 {
+        Err(Refusal::NoSuchVan)
+    } else {
+        Ok(old)
     }
 }
 
-fn adding(mem: &[u32], counts: Counts, old: VanWords, lookup: Lookup, offset: u32) -> Verdict
-    ensures { result ≡ adding mem.now counts old lookup offset }
+// The van, if it is there and no desk holds it.
+fn free_one(old: VanWords) -> Result<VanWords, Refusal>
+    ensures { result ≡ free_one old }
+{
+    let van = existing(old)?;
+    if van.state != VanWords::FREE {
+        return Err(Refusal::VanHeld);
+    }
+    Ok(van)
+}
+
+fn adding(
+    mem: &[u32],
+    counts: Counts,
+    old: VanWords,
+    from: u32,
+    to: u32,
+    offset: u32,
+) -> Result<VanWords, Refusal>
+    ensures { Adding mem.now counts old from to offset result }
 {
     if old.state != 0 {
-        return Verdict::Refuse(Reply::VanPresent);
+        return Err(Refusal::VanPresent);
     }
-    placing(mem, counts, VanWords::FREE, lookup, offset)
+    placing(mem, counts, VanWords::FREE, from, to, offset)
 }
 
-fn moving(mem: &[u32], counts: Counts, old: VanWords, lookup: Lookup, offset: u32) -> Verdict
-    ensures { result ≡ moving mem.now counts old lookup offset }
+fn moving(
+    mem: &[u32],
+    counts: Counts,
+    old: VanWords,
+    from: u32,
+    to: u32,
+    offset: u32,
+) -> Result<VanWords, Refusal>
+    ensures { Moving mem.now counts old from to offset result }
 {
-    if old.state == 0 {
-        return Verdict::Refuse(Reply::NoSuchVan);
-    }
-    placing(mem, counts, old.state, lookup, offset)
+    let van = existing(old)?;
+    placing(mem, counts, van.state, from, to, offset)
 }
 
-fn removing(old: VanWords) -> Verdict
+fn removing(old: VanWords) -> Result<VanWords, Refusal>
     ensures { result ≡ removing old }
 {
-    if old.state == 0 {
-        return Verdict::Refuse(Reply::NoSuchVan);
-    }
-    if VanWords::FREE < old.state {
-        return Verdict::Refuse(Reply::VanHeld);
-    }
-    Verdict::Stand(VanWords::ABSENT)
+    free_one(old)?;
+    Ok(VanWords::ABSENT)
 }
 
-fn claiming(old: VanWords, stamp: u32, desk: u32) -> Verdict
+fn claiming(old: VanWords, stamp: u32, desk: u32) -> Result<VanWords, Refusal>
     requires { desk < 256 }
     ensures { result ≡ claiming old stamp desk }
 {
-    if old.state == 0 {
-        return Verdict::Refuse(Reply::NoSuchVan);
+    let van = free_one(old)?;
+    if van.stamp != stamp {
+        return Err(Refusal::StampDiffers);
     }
-    if old.state != VanWords::FREE {
-        return Verdict::Refuse(Reply::VanHeld);
-    }
-    if old.stamp != stamp {
-        return Verdict::Refuse(Reply::StampDiffers);
-    }
-    Verdict::Stand(VanWords {
+    Ok(VanWords {
         state: desk + 1,
-        road: old.road,
-        offset: old.offset,
         stamp: 0,
+        ..van
     })
 }
 
-fn releasing(old: VanWords, desk: u32) -> Verdict
+fn releasing(old: VanWords, desk: u32) -> Result<VanWords, Refusal>
     requires { desk < 256 }
     ensures { result ≡ releasing old desk }
 {
-    if old.state == 0 {
-        return Verdict::Refuse(Reply::NoSuchVan);
+    let van = existing(old)?;
+    if van.state != desk + 1 {
+        return Err(Refusal::NotHeldByDesk);
     }
-    if old.state != desk + 1 {
-        return Verdict::Refuse(Reply::NotHeldByDesk);
-    }
-    Verdict::Stand(VanWords {
+    Ok(VanWords {
         state: VanWords::FREE,
-        road: old.road,
-        offset: old.offset,
         stamp: 0,
+        ..van
     })
 }
 
-pub fn van_of(change: Change) -> u32
-    ensures { result ≡ van_of change }
-{
-    match change {
-        Change::Add {
-            van,
-            from: _,
-            to: _,
-            offset: _,
-        } => van,
-        Change::Move {
-            van,
-            from: _,
-            to: _,
-            offset: _,
-        } => van,
-        Change::Remove { van } => van,
-        Change::Claim {
-            van,
-            stamp: _,
-            desk: _,
-        } => van,
-        Change::Release { van, desk: _ } => van,
-    }
-}
-
-// The change of a van that stands as `old` says.
-pub fn judged(mem: &[u32], counts: Counts, old: VanWords, change: Change) -> Verdict
+// How a van that stands as `old` says is to stand after the change. Its stamp is not told here.
+pub fn judged(
+    mem: &[u32],
+    counts: Counts,
+    old: VanWords,
+    change: Change,
+) -> Result<VanWords, Refusal>
     requires { desk_of change < 256 }
     ensures { HasVerdict mem.now counts old change result }
 {
     match change {
         Change::Add {
-            van: _,
             from,
             to,
             offset,
-        } => {
-            let lookup = look_up(mem, counts, from, to);
-            adding(mem, counts, old, lookup, offset)
-        }
+            ..
+        } => adding(mem, counts, old, from, to, offset),
         Change::Move {
-            van: _,
             from,
             to,
             offset,
-        } => {
-            let lookup = look_up(mem, counts, from, to);
-            moving(mem, counts, old, lookup, offset)
-        }
-        Change::Remove { van: _ } => removing(old),
-        Change::Claim {
-            van: _,
-            stamp,
-            desk,
-        } => claiming(old, stamp, desk),
-        Change::Release { van: _, desk } => releasing(old, desk),
+            ..
+        } => moving(mem, counts, old, from, to, offset),
+        Change::Remove { .. } => removing(old),
+        Change::Claim { stamp, desk, .. } => claiming(old, stamp, desk),
+        Change::Release { desk, .. } => releasing(old, desk),
     }
 }

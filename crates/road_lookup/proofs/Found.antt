@@ -1,27 +1,31 @@
 -- What the search finds, in a memory that has the roads of a sound map, is the road of the definitions.
 -- Assumes nothing.
-use mathlib.Core.Path.{◌≡◌, sym, subst, ◌∙◌}
+use mathlib.Core.Path.{◌≡◌, sym, subst, ap, ◌∙◌}
 use mathlib.Core.List.{List}
 use Prim.Native.Nat.{ℕ, ◌+◌, ◌≤◌, ◌<◌}
 use native.Mathlib.Omega.{arith}
 use native.Mathlib.Decide.{dec_lt, ℕ_discrete}
 use borrow.Author.Tests.{lt-ltb, le-ltb}
+use Rattle.std.specs.Prelude.{None, Some}
 use Rattle.words.proofs.Places.{entry_in}
 use Rattle.roads.specs.Map.{Map, road_count, no_road, road_at, road_between}
 use Rattle.roads.proofs.Between.{Runs}
 use Rattle.maps.specs.Sound.{Sound}
 use Rattle.counts.specs.declared.Counts.{Counts}
 use Rattle.image.specs.Image.{first_road_from}
-use Rattle.road_lookup.specs.Lookup.{end_in, first_road_in, Parts, Rising, FirstTo, RoadsKnown}
+use Rattle.road_lookup.specs.Lookup.{end_in, first_road_in, Parts, Rising, FirstTo, RoadsKnown, road_found}
 use Rattle.road_lookup.proofs.Sorted.{same_from, Starts, between_found, between_none, in_order, first_road}
 
 module _ (mem : List ℕ) (counts : Counts) (u v : ℕ) (m : Map) (sound : Sound m) (stand : RoadsKnown m counts mem) where
   from_there : (i : ℕ) → i < road_count m → (road_at m i).from < m.vertices
   from_there i h = (sound.road (road_at m i) (entry_in m.roads i no_road h)).from_exists
 
-  pub no_vertex : counts.vertices ≤ u → counts.roads ≡ road_between m.roads u v
-  no_vertex out =
-      stand.roads ∙ sym (between_none m.roads u v (λ j h runs. omega (arith, from_there j h, stand.vertices, runs.0)))
+  -- where no road of the map runs from u to v
+  none_found : ((j : ℕ) → j < road_count m → Runs m.roads j u v → ⊥) → None ≡ road_found m u v
+  none_found none = rw (le-ltb (road_between m.roads u v) (road_count m) (omega (arith, between_none m.roads u v none)))
+
+  pub no_vertex : counts.vertices ≤ u → None ≡ road_found m u v
+  no_vertex out = none_found (λ j h runs. omega (arith, from_there j h, stand.vertices, runs.0))
 
   first_is : (w : ℕ) → w ≤ m.vertices → first_road_in mem counts w ≡ first_road_from m w
   first_is w h =
@@ -79,16 +83,15 @@ module _ (mem : List ℕ) (counts : Counts) (u v : ℕ) (m : Map) (sound : Sound
       parts : Parts (end_in mem counts) low high v road
       parts = searched ordered rising
 
-      pub none_left : high ≤ road → counts.roads ≡ road_between m.roads u v
+      pub none_left : high ≤ road → None ≡ road_found m u v
       none_left past =
-          stand.roads
-          ∙ sym (between_none m.roads u v
+          none_found
           (λ j h runs.
           let at = inside j h runs.0 in
-          omega (arith, parts.before j at.0 (omega arith), end_is j at.1, runs.1)))
+          omega (arith, parts.before j at.0 (omega arith), end_is j at.1, runs.1))
 
-      pub other_end : road < high → (end_in mem counts road ≡ v → ⊥) → counts.roads ≡ road_between m.roads u v
-      other_end within differs = stand.roads ∙ sym (between_none m.roads u v none)
+      pub other_end : road < high → (end_in mem counts road ≡ v → ⊥) → None ≡ road_found m u v
+      other_end within differs = none_found none
         where
           none : (j : ℕ) → j < road_count m → Runs m.roads j u v → ⊥
           none j h runs =
@@ -98,9 +101,12 @@ module _ (mem : List ℕ) (counts : Counts) (u v : ℕ) (m : Map) (sound : Sound
                 | no later ↦ differs (omega (arith, parts.after road (omega arith) within, rising road j parts.from (omega arith) at.1, end_is j at.1, runs.1))
               ]
 
-      pub that_road : road < high → end_in mem counts road ≡ v → road ≡ road_between m.roads u v
-      that_road within same =
-          sym (between_found m.roads u v road (omega (arith, upper.few)) (from_u road parts.from within, sym (end_is road within) ∙ same)
-          (λ j less runs.
-          let at = inside j (omega (arith, upper.few)) runs.0 in
-          omega (arith, parts.before j at.0 less, end_is j at.1, runs.1)))
+      pub that_road : road < high → end_in mem counts road ≡ v → Some road ≡ road_found m u v
+      that_road within same = rw (lt-ltb (road_between m.roads u v) (road_count m) (omega (arith, is, upper.few))) (ap Some (sym is))
+        where
+          is : road_between m.roads u v ≡ road
+          is =
+              between_found m.roads u v road (omega (arith, upper.few)) (from_u road parts.from within, sym (end_is road within) ∙ same)
+              (λ j less runs.
+              let at = inside j (omega (arith, upper.few)) runs.0 in
+              omega (arith, parts.before j at.0 less, end_is j at.1, runs.1))

@@ -1,7 +1,5 @@
 -- Laws of the search and of the roads of a sound map.
-pub mod Chain
 pub mod Narrowed
 pub mod Sorted
 pub mod Found
-pub mod Answer
 pub mod Shown

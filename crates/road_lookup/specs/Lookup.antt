@@ -1,9 +1,10 @@
 -- What the lookup of a road finds.
-use Rattle.std.specs.Prelude.{◌≡◌, cond, List, ℕ, ◌+◌, ◌≤◌, ◌<◌, ltb}
+use Rattle.std.specs.Prelude.{◌≡◌, cond, List, ℕ, ◌+◌, ◌≤◌, ◌<◌, ltb, Option, None, Some}
 use Rattle.words.specs.Lists.{word}
 use Rattle.layout.specs.Layout.{roads_in_vertex, to_in_road}
 use Rattle.roads.specs.Map.{Map, road_count, road_at, road_between}
 use Rattle.maps.specs.Sound.{Sound}
+use Rattle.fleet.specs.Change.{is_road}
 use Rattle.counts.specs.declared.Counts.{Counts}
 use Rattle.places.specs.Place.{vertex_address, road_address}
 use Rattle.image.specs.Image.{first_road_from}
@@ -37,6 +38,10 @@ pub record RoadsKnown (m : Map) (counts : Counts) (mem : List ℕ) : Type 0 wher
   pub first : (v : ℕ) → v < m.vertices → word mem (vertex_address counts v + roads_in_vertex) ≡ first_road_from m v
   pub end : (i : ℕ) → i < road_count m → end_in mem counts i ≡ (road_at m i).to
 
+-- the road of a map from u to v
+abbrev pub road_found : Map → ℕ → ℕ → Option ℕ
+road_found m u v = cond (is_road m u v) (Some (road_between m.roads u v)) None
+
 -- in a memory that has the roads of a sound map, the road that the definitions find
-abbrev pub Between : List ℕ → Counts → (u v r : ℕ) → Type 0
-Between mem counts u v r = (m : Map) → Sound m → RoadsKnown m counts mem → r ≡ road_between m.roads u v
+abbrev pub Between : List ℕ → Counts → (u v : ℕ) → Option ℕ → Type 0
+Between mem counts u v r = (m : Map) → Sound m → RoadsKnown m counts mem → r ≡ road_found m u v

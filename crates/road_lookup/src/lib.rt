@@ -2,25 +2,15 @@
 // Any numbers and any words are taken.
 #![tactic(auto)]
 
-ghost use Rattle.std.specs.Prelude.{◌≡◌};
+ghost use Rattle.std.specs.Prelude.{◌≡◌, IfErr};
 ghost use Rattle.road_lookup.specs.Lookup.{end_in, first_road_in, FirstTo, Between};
-ghost use Rattle.road_lookup.specs.Answer.{LookupTells};
+ghost use Rattle.road_lookup.specs.Answer.{LookupTells, MissingRoad};
 
+use answers::Refusal;
 use cells::word;
 use counts::Counts;
 use layout::{RoadRecord, VertexRecord};
 use places::{road_at, vertex_at};
-
-// What looking up a road comes to.
-#[derive(Clone, Copy)]
-pub enum Lookup {
-    // the road's number
-    Found(u32),
-    // it is no road, but the other way is one
-    OtherWay,
-    // neither way is a road
-    Neither,
-}
 
 // The end of a road.
 pub fn road_end(mem: &[u32], counts: Counts, road: u32) -> u32
@@ -46,6 +36,7 @@ fn first_to(mem: &[u32], counts: Counts, low: u32, high: u32, to: u32) -> u32
 {
     let mut from = low;
     let mut until = high;
+    // no `partition_point`: the ends are one word of four in a memory that may be too short for its roads, and no slice of values
     while from < until {
         let middle = from + (until - from) / 2;
         if road_end(mem, counts, middle) < to {
@@ -57,36 +48,37 @@ fn first_to(mem: &[u32], counts: Counts, low: u32, high: u32, to: u32) -> u32
     from
 }
 
-// The number of the road from `from` to `to`, the count of roads where there is none.
-pub fn road_between(mem: &[u32], counts: Counts, from: u32, to: u32) -> u32
+// The number of the road from `from` to `to`.
+pub fn road_between(mem: &[u32], counts: Counts, from: u32, to: u32) -> Option<u32>
     ensures { Between mem.now counts from to result }
 {
     if counts.vertices <= from {
-        return counts.roads;
+        return None;
     }
     let low = first_road(mem, counts, from);
     let high = first_road(mem, counts, from + 1);
     let road = first_to(mem, counts, low, high, to);
     if high <= road {
-        return counts.roads;
+        return None;
     }
     if road_end(mem, counts, road) != to {
-        return counts.roads;
+        return None;
     }
-    road
+    Some(road)
 }
 
-// The lookup of the road from `from` to `to`. The other way is looked at only where that is none.
-pub fn look_up(mem: &[u32], counts: Counts, from: u32, to: u32) -> Lookup
-    ensures { LookupTells mem.now counts from to result }
+// The number of the road from `from` to `to`, or whether only the other way is one. That is looked at only where there is none.
+pub fn look_up(mem: &[u32], counts: Counts, from: u32, to: u32) -> Result<u32, Refusal>
+    ensures tells { LookupTells mem.now counts from to result }
+    ensures refusals { IfErr result MissingRoad }
 {
-    let road = road_between(mem, counts, from, to);
-    if road < counts.roads {
-        return Lookup::Found(road);
+    if let Some(road) = road_between(mem, counts, from, to) {
+        return Ok(road);
     }
     let back = road_between(mem, counts, to, from);
-    if back < counts.roads {
-        return Lookup::OtherWay;
+    if back.is_some() {
+        Err(Refusal::WrongWay)
+    } else {
+        Err(Refusal::NoRoad)
     }
-    Lookup::Neither
 }

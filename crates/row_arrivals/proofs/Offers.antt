@@ -1,10 +1,10 @@
 -- A vertex offered to a row, and to a line of rows.
 -- Assumes nothing.
-use mathlib.Core.Path.{◌≡◌, refl, ◌∙◌, ap}
+use mathlib.Core.Path.{◌≡◌, refl, sym, ◌∙◌, ap}
 use mathlib.Core.Bool.{◌&&◌, cond}
 use mathlib.Core.List.{List}
 use mathlib.Core.Logic.{inl, inr}
-use Prim.Native.Nat.{ℕ, zero, suc, ◌+◌, ◌-◌, ◌/◌, ◌%◌, ◌≤◌, ◌<◌}
+use Prim.Native.Nat.{ℕ, zero, suc, ◌+◌, ◌/◌, ◌%◌, ◌≤◌, ◌<◌, min}
 use native.Mathlib.Decide.{ℕ_discrete, dec_lt}
 use native.Mathlib.Omega.{arith}
 use lib.ListN.{get_or, set}
@@ -19,16 +19,8 @@ use Rattle.row_words.proofs.Words.{placed_row}
 
 -- An offer.
 module _ (v x d : ℕ) where
-  pub seen_near : (out : ℕ) → d < FAR - x → out ≡ placed v (x + d) → out ≡ placed_seen v x d
-  unfolding placed_seen
-  seen_near out near e = rw (lt-ltb (x + d) FAR (omega arith)) e
-
-  pub seen_far : x ≤ FAR → FAR - x ≤ d → 18446744073709551615 ≡ placed_seen v x d
-  unfolding placed_seen
-  seen_far most far = rw (le-ltb (x + d) FAR (omega arith))
-
   module _ (row seen : ℕ) (e : seen ≡ placed_seen v x d) (small : v < 4294967296) (fits : row < 18446744073709551616) where
-    pub nearer_taken : seen < row → unplaced seen ≡ offered_to (unplaced row) v x d
+    nearer_taken : seen < row → unplaced seen ≡ offered_to (unplaced row) v x d
     unfolding placed_seen offered_to improves
     nearer_taken less = by (dec_lt (x + d) FAR)
       where
@@ -42,7 +34,7 @@ module _ (v x d : ℕ) where
             before s (yes nearer) = inl nearer
             before s (no tie) = inr (omega (arith, tie), omega (arith, tie))
 
-    pub nearer_left : row ≤ seen → unplaced row ≡ offered_to (unplaced row) v x d
+    nearer_left : row ≤ seen → unplaced row ≡ offered_to (unplaced row) v x d
     unfolding placed_seen offered_to improves
     nearer_left most = by (dec_lt (x + d) FAR)
       where
@@ -56,6 +48,14 @@ module _ (v x d : ℕ) where
             tie s (yes same) = rw (eq-eqb (x + d) (row / 4294967296) same, le-ltb v (row % 4294967296) (omega arith))
             tie s (no other) = rw (ne_eqb (x + d) (row / 4294967296) other)
 
+    -- the lesser of the two
+    pub nearer_least : (least : ℕ) → least ≡ min seen row → unplaced least ≡ offered_to (unplaced row) v x d
+    nearer_least least m = by (dec_lt seen row)
+      where
+        by : Dec (seen < row) → unplaced least ≡ offered_to (unplaced row) v x d
+        by (yes less) = let same : least ≡ seen = omega arith in ap unplaced same ∙ nearer_taken less
+        by (no more) = let same : least ≡ row = omega (arith, more) in ap unplaced same ∙ nearer_left (omega (arith, more))
+
   pub offered_is : (mem : List ℕ) (to old new : ℕ) (row : Row) → (old % 4294967296 ≡ get_or mem to 0) × (old / 4294967296 ≡ get_or mem (to + 1) 0) → unplaced new ≡ offered_to (unplaced old) v x d → row ≡ unplaced new
       → set (set mem to row.vertex) (to + 1) row.distance ≡ offered mem to v x d
   unfolding offered
@@ -64,10 +64,11 @@ module _ (v x d : ℕ) where
 
 -- One turn of a loop does one step of its model, and where nothing is left the model is done.
 
-pub spread_turn : (n left : ℕ) (mem end : List ℕ) (to at v x : ℕ) → left ≡ suc n → end ≡ offered mem to v x (get_or mem at 0)
-    → spread n end (to + 4) (at + 1) v x ≡ spread left mem to at v x
+pub spread_turn : (n left : ℕ) (mem end : List ℕ) (row to next at after v x : ℕ) → left ≡ suc n → row ≡ to → next ≡ to + 4 → after ≡ at + 1 → end ≡ offered mem row v x (get_or mem at 0)
+    → spread n end next after v x ≡ spread left mem to at v x
 unfolding spread
-spread_turn n left mem end to at v x e q = rw e (ap (λ (l : List ℕ). spread n l (to + 4) (at + 1) v x) q)
+spread_turn n left mem end row to next at after v x e r t a q =
+    (λ j. spread n ((q ∙ ap (λ (k : ℕ). offered mem k v x (get_or mem at 0)) r) j) (t j) (a j) v x) ∙ sym (ap (λ (l : ℕ). spread l mem to at v x) e)
 
 pub spread_done : (left : ℕ) (mem : List ℕ) (to at v x : ℕ) → left ≤ 0 → spread left mem to at v x ≡ mem
 unfolding spread

@@ -1,155 +1,119 @@
 // A vertex became active: it is offered to the rows of a part by way of the sources that show it.
 #![tactic(auto)]
 
-ghost use Rattle.std.specs.Prelude.{◌≡◌, false, ◌||◌, ◌∷◌, ◌+◌, ◌*◌, ◌≤◌, ◌<◌, length};
+ghost use Rattle.std.specs.Prelude.{◌≡◌, false, ◌∷◌, ◌+◌, ◌*◌, ◌≤◌, ◌<◌, length};
 ghost use Rattle.layout.specs.Layout.{words_in_row};
-ghost use Rattle.rows.specs.Row.{comes_before};
 ghost use Rattle.listing.specs.Lists.{EachBelow};
-ghost use Rattle.row_words.specs.Words.{row_in, unplaced};
+ghost use Rattle.part_words.specs.Part.{Within};
+ghost use Rattle.row_words.specs.Words.{unplaced};
 ghost use Rattle.row_arrivals.specs.Arrival.{offered_to, offered, placed_seen, spread, is_news, met, arrived, any_news, lead};
 
-use cells::{lesser_wide, wide};
+use cells::wide;
 use layout::RowRecord;
+use part_words::PartRows;
 use row_words::{place, row_of, source};
 use rows::Row;
 
-// The places of what is too far to be seen, and of number 0 where it does not reach.
-const LAST_PLACE: u64 = 18446744073709551615;
-
-const FIRST_PLACE: u64 = 18446744069414584320;
-
-// The place of vertex v at distance x, seen d further on; where that is too far, one that comes before no row.
-fn place_seen(v: u32, x: u32, d: u32) -> u64
-    ensures { result ≡ placed_seen v x d }
+// The place of what a row shows, seen d further on; where that is too far, the last of all numbers, which comes before no row: so the nearer of two rows is the lesser
+// of two numbers, without a jump.
+#[tactic(auto, unfolding(crate::specs::Arrival::placed_seen))]
+fn place_seen(seen: Row, d: u32) -> u64
+    ensures { result ≡ placed_seen seen.vertex seen.distance d }
 {
-    if d < Row::FAR - x {
-        return place(v, x + d);
+    if d < Row::FAR - seen.distance {
+        place(seen.vertex, seen.distance + d)
+    } else {
+        u64::MAX
     }
-    LAST_PLACE
 }
 
-// Of a row, and of vertex v at distance x seen d further on, the one that comes before.
-fn nearer_place(row: u64, v: u32, x: u32, d: u32) -> u64
-    ensures { unplaced result ≡ offered_to (unplaced row) v x d }
+// Of a row, and of what another shows, seen d further on, the one that comes before.
+#[tactic(auto, using(crate::proofs::Offers::nearer_least))]
+fn nearer_place(row: u64, seen: Row, d: u32) -> u64
+    ensures { unplaced result ≡ offered_to (unplaced row) seen.vertex seen.distance d }
 {
-    let seen = place_seen(v, x, d);
-    if seen < row { seen } else { row }
+    place_seen(seen, d).min(row)
 }
 
-// Vertex v at distance x is offered to a row that stands d further on.
-fn offer(mem: &mut [u32], to: usize, v: u32, x: u32, d: u32)
+// What a row shows is offered to a row that stands d further on.
+#[tactic(auto, using(crate::proofs::Offers::offered_is))]
+fn offer(mem: &mut [u32], to: usize, seen: Row, d: u32)
     requires { to + 1 < length mem.old }
-    ensures { mem.new ≡ offered mem.old to v x d }
+    ensures { mem.new ≡ offered mem.old to seen.vertex seen.distance d }
 {
-    let old = place(mem[to], mem[to + 1]);
-    let row = row_of(nearer_place(old, v, x, d));
+    let old = place(mem[to], mem[to + RowRecord::DISTANCE]);
+    let row = row_of(nearer_place(old, seen, d));
     mem[to] = row.vertex;
-    mem[to + 1] = row.distance;
+    mem[to + RowRecord::DISTANCE] = row.distance;
 }
 
-// Vertex v at distance x is offered to `size` rows, with the distances of a line of the table.
-fn spread_line(mem: &mut [u32], rows: usize, line: usize, size: usize, v: u32, x: u32)
-    requires { (rows + words_in_row * size ≤ length mem.old) × (line + size ≤ length mem.old) }
-    ensures { mem.new ≡ spread size mem.old rows line v x }
+// It is offered to all rows of a part, with the distances of a line of the table.
+#[tactic(auto, using(crate::proofs::Offers::spread_turn, crate::proofs::Offers::spread_done))]
+fn spread_line(mem: &mut [u32], part: PartRows, line: usize, seen: Row)
+    requires within { Within mem.old part }
+    requires line { line + part.size ≤ length mem.old }
+    ensures { mem.new ≡ spread part.size mem.old part.first line seen.vertex seen.distance }
 {
-    let mut to = rows;
-    let mut at = line;
-    let mut left = size;
-    while 0 < left {
-        let d = mem[at];
-        offer(mem, to, v, x, d);
-        to += RowRecord::WORDS;
-        at += 1;
-        left -= 1;
+    for i in 0..part.size {
+        let d = mem[line + i];
+        offer(mem, part.row(i), seen, d);
     }
 }
 
-// Whether s comes before what the row at an address shows.
-fn comes_first(mem: &[u32], s: Row, row: usize) -> bool
-    requires { row + 1 < length mem.now }
-    ensures { result ≡ comes_before s (row_in mem.now row) }
+// Where the source of row number i shows v, and comes before what the row itself shows, it is offered to all rows of the part. Says whether it is.
+fn meet(mem: &mut [u32], part: PartRows, v: u32, i: usize) -> bool
+    requires within { Within mem.old part }
+    requires is_row { i < part.size }
+    ensures { (mem.new ≡ met mem.old part.first part.size v (part.first + words_in_row * i) (part.table + part.size * i)) × (result ≡ is_news mem.old v (part.first + words_in_row * i)) }
 {
-    let here = place(mem[row], mem[row + 1]);
-    place(s.vertex, s.distance) < here
-}
-
-// Where the source of row number i shows v, and comes before what the row itself shows, it is offered to all rows of the part.
-fn meet(
-    mem: &mut [u32],
-    rows: usize,
-    table: usize,
-    size: usize,
-    v: u32,
-    i: usize,
-    any: bool,
-) -> bool
-    requires { (rows + words_in_row * size ≤ length mem.old) × (table + size * size ≤ length mem.old) × (size ≤ 128) × (i < size) }
-    ensures { (mem.new ≡ met mem.old rows size v (rows + words_in_row * i) (table + size * i)) × (result ≡ (is_news mem.old v (rows + words_in_row * i) || any)) }
-{
-    let row = rows + RowRecord::WORDS * i;
-    let s = source(mem, row);
-    if s.vertex == v {
-        if comes_first(mem, s, row) {
-            spread_line(mem, rows, table + size * i, size, v, s.distance);
-            return true;
-        }
+    let row = part.row(i);
+    let seen = source(mem, row);
+    let shown = Row::showing(mem[row], mem[row + RowRecord::DISTANCE]);
+    if seen.vertex == v && seen < shown {
+        spread_line(mem, part, part.line(i), seen);
+        true
+    } else {
+        false
     }
-    any
 }
 
-// The sources of the rows with these numbers are met. Says whether any source was offered, or `already` is true.
-fn meet_all(
-    mem: &mut [u32],
-    numbers: &[u32],
-    rows: usize,
-    table: usize,
-    size: usize,
-    v: u32,
-    already: bool,
-) -> bool
-    requires { (rows + words_in_row * size ≤ length mem.old) × (table + size * size ≤ length mem.old) × (size ≤ 128) × EachBelow size numbers.now }
-    ensures { (mem.new ≡ arrived numbers.now mem.old rows table size v) × (result ≡ any_news already numbers.now mem.old rows table size v) }
+// The sources of the rows with these numbers are met. Says whether any was offered.
+#[tactic(auto, using(crate::proofs::Sources::arrived_turn, crate::proofs::Sources::arrived_done, crate::proofs::Sources::news_turn, crate::proofs::Sources::news_done, crate::proofs::Sources::or_comm))]
+fn meet_all(mem: &mut [u32], numbers: &[u32], part: PartRows, v: u32) -> bool
+    requires within { Within mem.old part }
+    requires are_rows { EachBelow part.size numbers.now }
+    ensures { (mem.new ≡ arrived numbers.now mem.old part.first part.table part.size v) × (result ≡ any_news false numbers.now mem.old part.first part.table part.size v) }
 {
-    let n = numbers.len();
-    let mut any = already;
-    let mut k = 0;
-    while k < n {
-        any = meet(mem, rows, table, size, v, wide(numbers[k]), any);
-        k += 1;
+    let mut any = false;
+    for i in numbers {
+        any |= meet(mem, part, v, wide(*i));
     }
     any
 }
 
 // Of the rows with these numbers one whose source is the nearest: its number.
-fn nearest_number(mem: &[u32], numbers: &[u32], rows: usize, size: usize) -> usize
-    requires { (rows + words_in_row * size ≤ length mem.now) × (size ≤ 128) × EachBelow size numbers.now }
-    ensures { result ≡ lead numbers.now mem.now rows }
+#[tactic(auto, using(crate::proofs::Sources::lead_turn, crate::proofs::Sources::lead_done))]
+fn nearest_number(mem: &[u32], numbers: &[u32], part: PartRows) -> usize
+    requires within { Within mem.now part }
+    requires are_rows { EachBelow part.size numbers.now }
+    ensures { result ≡ lead numbers.now mem.now part.first }
 {
-    let n = numbers.len();
-    let mut best = FIRST_PLACE;
-    let mut k = 0;
-    while k < n {
-        let i = numbers[k];
-        let s = source(mem, rows + RowRecord::WORDS * wide(i));
-        best = lesser_wide(best, place(i, s.distance));
-        k += 1;
+    let mut best = place(0, Row::FAR);
+    for i in numbers {
+        let seen = source(mem, part.row(wide(*i)));
+        best = best.min(place(*i, seen.distance));
     }
-    (best % 4294967296) as usize
+    wide(row_of(best).vertex)
 }
 
-// The sources of the rows with these numbers are met, the nearest first: what it brings the others often need not bring again.
-pub fn meet_led(
-    mem: &mut [u32],
-    numbers: &[u32],
-    rows: usize,
-    table: usize,
-    size: usize,
-    v: u32,
-) -> bool
-    requires { (rows + words_in_row * size ≤ length mem.old) × (table + size * size ≤ length mem.old) × (size ≤ 128) × (0 < size) × EachBelow size numbers.now }
-    ensures { (mem.new ≡ arrived (lead numbers.now mem.old rows ∷ numbers.now) mem.old rows table size v) × (result ≡ any_news false (lead numbers.now mem.old rows ∷ numbers.now) mem.old rows table size v) }
+// The sources of the rows with these numbers are met, the nearest first: what it brings the others often need not bring again. Says whether any was offered.
+pub fn meet_led(mem: &mut [u32], numbers: &[u32], part: PartRows, v: u32) -> bool
+    requires within { Within mem.old part }
+    requires some { 0 < part.size }
+    requires are_rows { EachBelow part.size numbers.now }
+    ensures { (mem.new ≡ arrived (lead numbers.now mem.old part.first ∷ numbers.now) mem.old part.first part.table part.size v) × (result ≡ any_news false (lead numbers.now mem.old part.first ∷ numbers.now) mem.old part.first part.table part.size v) }
 {
-    let i = nearest_number(mem, numbers, rows, size);
-    let any = meet(mem, rows, table, size, v, i, false);
-    meet_all(mem, numbers, rows, table, size, v, any)
+    let nearest = nearest_number(mem, numbers, part);
+    let any = meet(mem, part, v, nearest);
+    any | meet_all(mem, numbers, part, v)
 }

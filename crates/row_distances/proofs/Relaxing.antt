@@ -4,7 +4,7 @@ use mathlib.Core.Path.{◌≡◌, refl, sym, ◌∙◌, ap, subst}
 use mathlib.Core.Logic.{◌⊎◌, inl, inr, ⊎_elim}
 use mathlib.Core.Bool.{Bool, true, false, true≢false}
 use mathlib.Core.List.{List}
-use Prim.Native.Nat.{ℕ, ◌+◌, ◌-◌, ◌*◌, ◌%◌, ◌≤◌, ◌<◌}
+use Prim.Native.Nat.{ℕ, ◌+◌, ◌*◌, ◌%◌, ◌≤◌, ◌<◌}
 use native.Mathlib.Decide.{ℕ_discrete, dec_lt}
 use native.Mathlib.Omega.{arith}
 use lib.ListN.{length, drop, take}
@@ -16,6 +16,7 @@ use Rattle.far_sums.proofs.Lowering.{lowered_same, lowered_length, lowered_no_mo
 use Rattle.cells.specs.Lowered.{lowered}
 use Rattle.listing.specs.Lists.{Among}
 use Rattle.part_words.proofs.Fits.{row_within}
+use Rattle.row_lists.specs.declared.lists.RowLists.{RowLists}
 use Rattle.row_lists.specs.Rows.{owner_at, near_at, shows_own, is_known, is_asked, AskedRow, OwnRow, RowsLooked}
 use Rattle.row_lists.proofs.Rows.{row_read}
 use Rattle.row_distances.specs.Distances.{way_in, Closer, Alone}
@@ -103,22 +104,21 @@ module _ {mem : List ℕ} {first table size : ℕ} {dx : List ℕ} {P : ℕ → 
           )
 
 -- the vertex of row i, read from the rows, has its distance made less
-pub owner_lowered : (mem : List ℕ) (first size i : ℕ) (dx : List ℕ) (way : ℕ) {wide : ℕ} {dx' : List ℕ} → i < size → wide ≡ word (take (first + 4 * size - first) (drop first mem)) (4 * i + 2) % 65536
+pub owner_lowered : (mem : List ℕ) (first size i : ℕ) (dx : List ℕ) (way : ℕ) {rows : List ℕ} {wide : ℕ} {dx' : List ℕ} → rows ≡ take (4 * size) (drop first mem) → i < size → wide ≡ word rows (4 * i + 2) % 65536
     → dx' ≡ lowered dx wide way → dx' ≡ lowered dx (owner_at mem first i) way
-owner_lowered mem first size i dx way h is_wide isAfter =
-    isAfter ∙ ap (λ (k : ℕ). lowered dx k way) (is_wide ∙ ap (λ (k : ℕ). k % 65536) (row_read mem first size i 2 h (omega arith)))
+owner_lowered mem first size i dx way cut h is_wide isAfter =
+    isAfter ∙ ap (λ (k : ℕ). lowered dx k way) (is_wide ∙ ap (λ (k : ℕ). k % 65536) (row_read mem first size cut i 2 h (omega arith)))
 
 -- Rows that are listed.
-module _ {mem : List ℕ} {first size : ℕ} {dx : List ℕ} {test : ℕ → Bool} {places near : List ℕ} {known : ℕ} {asked : List ℕ} {count : ℕ}
-    (l : RowsLooked mem first dx test size places near known asked count) where
+module _ {mem : List ℕ} {first size : ℕ} {dx : List ℕ} {test : ℕ → Bool} {lists : RowLists} (l : RowsLooked mem first dx test size lists) where
   -- a way by the least of the known places is the least by way of any row
-  way_least : (table i : ℕ) {way : ℕ} → Least (way_in mem (table + size * i) places near) known way → Least (way_by mem first table size dx i) size way
+  way_least : (table i : ℕ) {way : ℕ} → Least (way_in mem (table + size * i) lists.places lists.near) lists.known way → Least (way_by mem first table size dx i) size way
   unfolding way_in is_known
   way_least table i {way} least =
       record {
         most = least.most;
         below = λ j hj. below j hj (dec_lt (near_at mem first dx j) FAR);
-        found = ⊎_elim inl (λ (s, hs, e). inr (word places s, (l.knows.only s hs).0, omega (arith, e, l.nears s hs))) least.found;
+        found = ⊎_elim inl (λ (s, hs, e). inr (word lists.places s, (l.knows.only s hs).0, omega (arith, e, l.nears s hs))) least.found;
       }
     where
       below : (j : ℕ) → j < size → Dec (near_at mem first dx j < FAR) → way ≤ word mem (table + size * i + j) + near_at mem first dx j
@@ -128,8 +128,8 @@ module _ {mem : List ℕ} {first size : ℕ} {dx : List ℕ} {test : ℕ → Boo
           omega (arith, least.below s hs, ap (λ (k : ℕ). word mem (table + size * i + k)) e, l.nears s hs, ap (near_at mem first dx) e)
 
   -- the next of those that are asked for
-  pub closer_next : {table t : ℕ} {dx' : List ℕ} → Closer mem first table size dx (Among asked t) dx' → {i way : ℕ} {dx'' : List ℕ} → i ≡ word asked t
-      → Least (way_in mem (table + size * i) places near) known way → dx'' ≡ lowered dx' (owner_at mem first i) way → Closer mem first table size dx (Among asked (t + 1)) dx''
+  pub closer_next : {table t : ℕ} {dx' : List ℕ} → Closer mem first table size dx (Among lists.asked t) dx' → {i way : ℕ} {dx'' : List ℕ} → i ≡ word lists.asked t
+      → Least (way_in mem (table + size * i) lists.places lists.near) lists.known way → dx'' ≡ lowered dx' (owner_at mem first i) way → Closer mem first table size dx (Among lists.asked (t + 1)) dx''
   closer_next {table} {t} c {i} is_row isWay isAfter = closer_more c
       (λ r (s, hs, e). (s, omega arith, e))
       (t, omega arith, sym is_row)
@@ -137,26 +137,23 @@ module _ {mem : List ℕ} {first size : ℕ} {dx : List ℕ} {test : ℕ → Boo
       (way_least table i isWay)
       isAfter
     where
-      which : (r s : ℕ) → s < t + 1 → word asked s ≡ r → Dec (s ≡ t) → (r ≡ i) ⊎ Among asked t r
-      which r s hs e (yes same) = inl (sym e ∙ ap (word asked) same ∙ sym is_row)
+      which : (r s : ℕ) → s < t + 1 → word lists.asked s ≡ r → Dec (s ≡ t) → (r ≡ i) ⊎ Among lists.asked t r
+      which r s hs e (yes same) = inl (sym e ∙ ap (word lists.asked) same ∙ sym is_row)
       which r s hs e (no other) = inr (s, omega (arith, other), e)
 
   -- a row that is asked for
-  asked_row : {t i : ℕ} → t < count → i ≡ word asked t → i < size
+  asked_row : {t i : ℕ} → t < lists.count → i ≡ word lists.asked t → i < size
   asked_row {t} h is_row = omega (arith, (l.asks.only t h).0)
 
   -- and its words of the table
-  pub asked_within : size ≤ 128 → {t i : ℕ} → t < count → i ≡ word asked t → (i < size) × (size * i ≤ 16384) × (size * i + size ≤ size * size)
+  pub asked_within : size ≤ 128 → {t i : ℕ} → t < lists.count → i ≡ word lists.asked t → (i < size) × (size * i ≤ 16384) × (size * i + size ≤ size * size)
   asked_within few {t} {i} h is_row =
       let line = row_within size i few (asked_row h is_row) in
       (asked_row h is_row, line.0, line.1)
 
-  pub known_few : size ≤ 128 → known ≤ 128
-  known_few few = omega (arith, l.knows.few)
-
 -- every row that is asked for
-pub closer_asked : {mem : List ℕ} {first table size : ℕ} (all : Bool) {dx places near : List ℕ} {known : ℕ} {asked : List ℕ} {count : ℕ} {dx' : List ℕ}
-    → RowsLooked mem first dx (is_asked all mem first dx) size places near known asked count → Closer mem first table size dx (Among asked count) dx' → Closer mem first table size dx (AskedRow all mem first size dx) dx'
+pub closer_asked : {mem : List ℕ} {first table size : ℕ} (all : Bool) {dx : List ℕ} {lists : RowLists} {dx' : List ℕ}
+    → RowsLooked mem first dx (is_asked all mem first dx) size lists → Closer mem first table size dx (Among lists.asked lists.count) dx' → Closer mem first table size dx (AskedRow all mem first size dx) dx'
 closer_asked {mem} {first} {size = size} all {dx} l c = closer_map
     (λ i (s, hs, e).
     let (row, asks) = l.asks.only s hs in
@@ -164,8 +161,8 @@ closer_asked {mem} {first} {size = size} all {dx} l c = closer_map
     (λ i row. l.asks.all i row.is_row row.is_asked_lem)
     c
 
-pub closer_own : {mem : List ℕ} {first table size : ℕ} {dx places near : List ℕ} {known : ℕ} {asked : List ℕ} {count : ℕ} {dx' : List ℕ}
-    → RowsLooked mem first dx (shows_own mem first) size places near known asked count → Closer mem first table size dx (Among asked count) dx' → Closer mem first table size dx (OwnRow mem first size) dx'
+pub closer_own : {mem : List ℕ} {first table size : ℕ} {dx : List ℕ} {lists : RowLists} {dx' : List ℕ}
+    → RowsLooked mem first dx (shows_own mem first) size lists → Closer mem first table size dx (Among lists.asked lists.count) dx' → Closer mem first table size dx (OwnRow mem first size) dx'
 closer_own {mem} {first} {size = size} l c = closer_map
     (λ i (s, hs, e).
     let (row, own) = l.asks.only s hs in

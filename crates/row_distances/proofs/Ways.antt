@@ -1,19 +1,29 @@
 -- Ways by the known places, over the memory and over the words of one row; and distances out of a child.
 -- Assumes nothing.
-use mathlib.Core.Path.{◌≡◌, refl, sym, ◌∙◌, ap}
+use mathlib.Core.Path.{◌≡◌, refl, sym, ◌∙◌, ap, subst}
 use mathlib.Core.Logic.{◌≢◌}
 use mathlib.Core.List.{List}
-use Prim.Native.Nat.{ℕ, ◌+◌, ◌*◌, ◌/◌, ◌%◌, ◌<◌}
+use Prim.Native.Nat.{ℕ, ◌+◌, ◌*◌, ◌/◌, ◌%◌, ◌<◌, min}
+use native.Mathlib.Decide.{dec_lt}
+use native.Mathlib.Omega.{arith}
 use lib.ListN.{drop, take}
 use lib.Seq.{get_or-take, get_or-drop}
 use borrow.Author.Tests.{eq-eqb, ne_eqb}
 use Rattle.words.specs.Limits.{FAR}
 use Rattle.words.specs.Lists.{word}
 use Rattle.far_sums.specs.Least.{Least}
-use Rattle.far_sums.proofs.Least.{least_same}
+use Rattle.far_sums.proofs.Least.{least_same, least_lower_by, least_stays_by}
 use Rattle.row_lists.specs.Rows.{child_at}
 use Rattle.row_lists.proofs.Rows.{near_read}
 use Rattle.row_distances.specs.Distances.{way_in, way_over, out_of}
+
+-- the least of one way more
+pub least_more : (f : ℕ → ℕ) {n r w r' : ℕ} → Least f n r → w ≡ f n → r' ≡ min r w → Least f (n + 1) r'
+least_more f {n} {r} {w} {r'} l is least = by (dec_lt w r)
+  where
+    by : Dec (w < r) → Least f (n + 1) r'
+    by (yes less) = subst (Least f (n + 1)) (let e : w ≡ r' = omega arith in e) (least_lower_by f l is less)
+    by (no more) = subst (Least f (n + 1)) (let e : r ≡ r' = omega (arith, more) in e) (least_stays_by f l is (omega (arith, more)))
 
 -- the next way over a row
 pub over_next : (row places near : List ℕ) (t : ℕ) → word row (word places t) + word near t ≡ way_over row places near t

@@ -1,178 +1,116 @@
 // Distances to the vertex asked at, for the vertices that have a row in a part: each row that is asked for gets as little as a way by way of a row makes it.
 #![tactic(auto)]
 
-ghost use Rattle.std.specs.Prelude.{◌≡◌, Bool, true, ℕ, ◌+◌, ◌*◌, ◌≤◌, ◌<◌, ◌^◌, length, take};
-ghost use Rattle.layout.specs.Layout.{rows_in_part, table_in_part, words_in_row, part_word};
+ghost use Rattle.std.specs.Prelude.{◌≡◌, Bool, true, ℕ, ◌≤◌, ◌<◌, length, take};
+ghost use Rattle.layout.specs.Layout.{rows_in_part, table_in_part, part_word};
 ghost use Rattle.words.specs.Lists.{word};
 ghost use Rattle.far_sums.specs.Least.{Least};
 ghost use Rattle.listing.specs.Lists.{Among, Lists};
-ghost use Rattle.part_words.specs.Part.{rows_in};
+ghost use Rattle.part_words.specs.Part.{rows_in, Within};
 ghost use Rattle.row_lists.specs.Rows.{Fits, shows_own, own_rows, RowsLooked, AskedRow, OwnRow};
 ghost use Rattle.row_distances.specs.Distances.{way_over, Closer, Relaxed, Alone, out_of};
 
 use cells::{lower, more, wide, word};
 use far_sums::FAR;
-use layout::{PartRecord, RowRecord};
-use part_words::{part_rows, part_word, rows_in};
-use row_lists::{look_leaf, row_word};
+use layout::{PartRecord, RowRecord, part_word, row_word};
+use part_words::{PartRows, part_rows, row_count};
+use row_lists::{RowLists, line_of, look, rows_of};
 
-// The least way over a row's words of the table by way of one of the places, which are all within the row.
-pub fn least_in(row: &[u32], places: &[u32], near: &[u32], count: usize) -> u32
-    requires { (count ≤ length places.now) × (count ≤ length near.now) × ((t : ℕ) → t < count → word places.now t < length row.now) }
-    ensures { Least (way_over row.now places.now near.now) count result }
+// The least way over a line of the table by way of one of the known rows, which all have a word in the line.
+pub fn least_in(line: &[u32], lists: &RowLists) -> u32
+    requires { (t : ℕ) → t < lists.now.known → word lists.now.places t < length line.now }
+    ensures { Least (way_over line.now lists.now.places lists.now.near) lists.now.known result }
 {
-    let mut least: usize = 4294967295;
-    let mut t = 0;
-    while t < count {
-        let j = places[t] as usize;
-        let way = row[j] as usize + near[t] as usize;
-        if way < least {
-            least = way;
-        }
-        t += 1;
+    let mut least = wide(FAR);
+    for (&place, &near) in lists.places().iter().zip(lists.near()) {
+        least = least.min(line[place as usize] as usize + near as usize);
     }
     least as u32
 }
 
-// The rows that are asked for, listed as `look_leaf` does: each gets as little as a way by way of a row makes it.
-fn relax_asked(
-    mem: &[u32],
-    first: usize,
-    table: usize,
-    size: usize,
-    dx: &mut [u32],
-    places: &[u32; 128],
-    near: &[u32; 128],
-    known: usize,
-    asked: &[u32; 128],
-    count: usize,
-)
-    requires { (first < 2 ^ 32) × (table < 2 ^ 32) × (size ≤ 128) × (first + words_in_row * size ≤ length mem.now) × (table + size * size ≤ length mem.now) × ((test : ℕ → Bool) × RowsLooked mem.now first dx.old test size places.now near.now known asked.now count) }
-    ensures { Closer mem.now first table size dx.old (Among asked.now count) dx.new }
+// The rows that are asked for, listed by `look`: each gets as little as a way by way of a row makes it.
+fn relax_asked(mem: &[u32], part: PartRows, dx: &mut [u32], lists: &RowLists)
+    requires { Within mem.now part × ((test : ℕ → Bool) × RowsLooked mem.now part.first dx.old test part.size lists.now) }
+    ensures { Closer mem.now part.first part.table part.size dx.old (Among lists.now.asked lists.now.count) dx.new }
 {
-    let end = first + RowRecord::WORDS * size;
-    let rows = &mem[first..end];
-    let mut t = 0;
-    while t < count {
-        let i = wide(word(asked, t));
-        let at = table + size * i;
-        let past = at + size;
-        let row = &mem[at..past];
-        let way = least_in(row, places, near, known);
+    let rows = rows_of(mem, part);
+    for &asked in lists.asked() {
+        let i = wide(asked);
+        let way = least_in(line_of(mem, part, i), lists);
         lower(
             dx,
             wide(rows[RowRecord::WORDS * i + RowRecord::OWN] % RowRecord::CHILD),
             way,
         );
-        t += 1;
     }
 }
 
-// The active rows of a leaf, those that show their own vertex, get their distances, and are listed by their numbers: how many there are.
-pub fn relax_leaf(
-    mem: &[u32],
-    p: usize,
-    dx: &mut [u32],
-    places: &mut [u32; 128],
-    near: &mut [u32; 128],
-    asked: &mut [u32; 128],
-) -> usize
-    requires { p < 2 ^ 32 }
-    ensures { (result ≤ 128) × (Fits mem.now p → Closer mem.now (part_word mem.now p rows_in_part) (part_word mem.now p table_in_part) (rows_in mem.now p) dx.old (OwnRow mem.now (part_word mem.now p rows_in_part) (rows_in mem.now p)) dx.new × (take result asked.new ≡ own_rows mem.now p)) }
+// The active rows of a leaf, those that show their own vertex, get their distances, and are listed by their numbers. No row is listed where the leaf does not lie
+// within the memory.
+pub fn relax_leaf(mem: &[u32], p: u32, dx: &mut [u32], lists: &mut RowLists)
+    ensures { Fits mem.now p → Closer mem.now (part_word mem.now p rows_in_part) (part_word mem.now p table_in_part) (rows_in mem.now p) dx.old (OwnRow mem.now (part_word mem.now p rows_in_part) (rows_in mem.now p)) dx.new × (take lists.new.count lists.new.asked ≡ own_rows mem.now p) }
 {
-    let part = part_rows(mem, p);
-    if part.within {
-        let listed = look_leaf(mem, part.first, part.size, dx, places, near, asked);
-        let known = listed.known;
-        let count = listed.asked;
-        relax_asked(
-            mem, part.first, part.table, part.size, dx, places, near, known, asked, count,
-        );
-        return count;
-    }
-    0
+    let Some(part) = part_rows(mem, p) else {
+        lists.count = 0;
+        return;
+    };
+    look(mem, part, dx, lists, |_, shown, _| shown == 0);
+    relax_asked(mem, part, dx, lists);
 }
 
 // Each row's vertex gets at most what the table says from it to the row at `place`; and the rows that show their own vertex are listed by their numbers.
-fn lower_rows(
-    mem: &[u32],
-    first: usize,
-    table: usize,
-    size: usize,
-    place: usize,
-    dx: &mut [u32],
-    asked: &mut [u32],
-) -> usize
-    requires { (first < 2 ^ 32) × (table < 2 ^ 32) × (size ≤ 128) × (place < size) × (first + words_in_row * size ≤ length mem.now) × (table + size * size ≤ length mem.now) × (length asked.old ≡ 128) }
-    ensures { (length dx.new ≡ length dx.old) × Lists (shows_own mem.now first) size asked.new result × (Alone mem.now first size dx.old place → Closer mem.now first table size dx.old (AskedRow true mem.now first size dx.old) dx.new) }
+fn lower_rows(mem: &[u32], part: PartRows, place: usize, dx: &mut [u32], lists: &mut RowLists)
+    requires { (place < part.size) × Within mem.now part }
+    ensures { (length dx.new ≡ length dx.old) × Lists (shows_own mem.now part.first) part.size lists.new.asked lists.new.count × (Alone mem.now part.first part.size dx.old place → Closer mem.now part.first part.table part.size dx.old (AskedRow true mem.now part.first part.size dx.old) dx.new) }
 {
-    let end = first + RowRecord::WORDS * size;
-    let rows = &mem[first..end];
+    let rows = rows_of(mem, part);
     let mut count = 0;
-    let mut i = 0;
-    while i < size {
+    for i in 0..part.size {
         let shown = rows[RowRecord::WORDS * i + RowRecord::DISTANCE];
-        let at = table + size * i + place;
+        let way = mem[part.line(i) + place];
         lower(
             dx,
             wide(rows[RowRecord::WORDS * i + RowRecord::OWN] % RowRecord::CHILD),
-            mem[at],
+            way,
         );
-        asked[count] = i as u32;
+        lists.asked[count] = i as u32;
         count = more(count, shown == 0);
-        i += 1;
     }
-    count
+    lists.count = count;
 }
 
 // The rows of a leaf of which only the one at `place` has a distance, 0: each gets what the table says to that one. Those that show their own vertex are listed by
-// their numbers: how many there are.
-pub fn relax_own(
-    mem: &[u32],
-    p: usize,
-    place: usize,
-    dx: &mut [u32],
-    asked: &mut [u32; 128],
-) -> usize
-    requires { p < 2 ^ 32 }
-    ensures { (result ≤ 128) × (Fits mem.now p → place < rows_in mem.now p → (Alone mem.now (part_word mem.now p rows_in_part) (rows_in mem.now p) dx.old place → Relaxed mem.now p true dx.old dx.new) × (take result asked.new ≡ own_rows mem.now p)) }
+// their numbers. No row is listed where the leaf does not lie within the memory, or has no such row.
+pub fn relax_own(mem: &[u32], p: u32, place: u32, dx: &mut [u32], lists: &mut RowLists)
+    ensures { Fits mem.now p → place < rows_in mem.now p → (Alone mem.now (part_word mem.now p rows_in_part) (rows_in mem.now p) dx.old place → Relaxed mem.now p true dx.old dx.new) × (take lists.new.count lists.new.asked ≡ own_rows mem.now p) }
 {
-    let part = part_rows(mem, p);
-    if part.within {
-        if place < part.size {
-            return lower_rows(mem, part.first, part.table, part.size, place, dx, asked);
-        }
+    let place = wide(place);
+    match part_rows(mem, p) {
+        Some(part) if place < part.size => lower_rows(mem, part, place, dx, lists),
+        _ => lists.count = 0,
     }
-    0
 }
 
 // The distance of row i's vertex, if the row lies in the child c.
-fn out_of(mem: &[u32], first: usize, i: usize, c: u32, dx: &[u32]) -> u32
-    requires { (first < 2 ^ 32) × (i ≤ 128) }
+fn out_of(mem: &[u32], first: u32, i: u32, c: u32, dx: &[u32]) -> u32
     ensures { result ≡ out_of mem.now first dx.now c i }
 {
     let owner = row_word(mem, first, i, RowRecord::OWN);
     if owner / RowRecord::CHILD == c {
-        return word(dx, wide(owner % RowRecord::CHILD));
+        word(dx, wide(owner % RowRecord::CHILD))
+    } else {
+        FAR
     }
-    FAR
 }
 
 // The least distance of a boundary vertex of part c, whose parent is p: nothing outside c is nearer.
-pub fn way_out(mem: &[u32], p: usize, c: u32, dx: &[u32]) -> u32
-    requires { p < 2 ^ 32 }
+pub fn way_out(mem: &[u32], p: u32, c: u32, dx: &[u32]) -> u32
     ensures { Least (out_of mem.now (part_word mem.now p rows_in_part) dx.now c) (rows_in mem.now p) result }
 {
-    let size = rows_in(mem, p);
-    let first = wide(part_word(mem, p, PartRecord::ROWS));
+    let first = part_word(mem, p, PartRecord::ROWS);
     let mut least = FAR;
-    let mut i = 0;
-    while i < size {
-        let near = out_of(mem, first, i, c, dx);
-        if near < least {
-            least = near;
-        }
-        i += 1;
+    for i in 0..row_count(mem, p) {
+        least = least.min(out_of(mem, first, i as u32, c, dx));
     }
     least
 }

@@ -1,6 +1,6 @@
 -- The rows of a part that have a distance, and those that are asked for, listed row by row.
 -- Assumes nothing.
-use mathlib.Core.Path.{◌≡◌, sym, ◌∙◌, ap}
+use mathlib.Core.Path.{◌≡◌, sym, ◌∙◌, ap, subst}
 use mathlib.Core.Bool.{Bool, cond}
 use mathlib.Core.List.{List}
 use Prim.Native.Nat.{ℕ, ◌+◌, ◌≤◌, ◌<◌}
@@ -13,9 +13,19 @@ use Rattle.words.specs.Limits.{FAR}
 use Rattle.words.specs.Lists.{word, up_to, keep}
 use Rattle.listing.specs.Lists.{Lists}
 use Rattle.listing.proofs.Listing.{Listing, listing_none, listing_more, listing_all}
-use Rattle.layout.specs.Layout.{part_word}
+use Rattle.layout.specs.Layout.{distance_in_row, below_in_row, part_word, row_word}
 use Rattle.part_words.specs.Part.{rows_in}
-use Rattle.row_lists.specs.Rows.{near_at, shows_own, own_rows, is_known, RowsLooked}
+use Rattle.row_lists.specs.declared.lists.RowLists.{RowLists}
+use Rattle.row_lists.specs.Rows.{near_at, shows_own, own_rows, is_known, Picks, RowsLooked}
+
+-- a row by what was read of it
+pub picks_row : (mem : List ℕ) (first : ℕ) (dx : List ℕ) {size : ℕ} (Picked : ℕ → ℕ → ℕ → Bool → Type 0) {test : ℕ → Bool} → Picks mem first dx size Picked test → {i d shown below : ℕ} {is : Bool} → i < size
+    → d ≡ near_at mem first dx i → shown ≡ row_word mem first i distance_in_row → below ≡ row_word mem first i below_in_row → Picked d shown below is → is ≡ test i
+picks_row mem first dx Picked picks {i} {d} {shown} {below} {is} h near_is isShown isBelow picked =
+    picks i is h
+    (subst (λ (k : ℕ). Picked k (row_word mem first i distance_in_row) (row_word mem first i below_in_row) is) near_is
+    (subst (λ (k : ℕ). Picked d k (row_word mem first i below_in_row) is) isShown
+    (subst (λ (k : ℕ). Picked d shown k is) isBelow picked)))
 
 -- The rows of a part, listed up to row i.
 pub record Looking (mem : List ℕ) (first : ℕ) (dx : List ℕ) (test : ℕ → Bool) (size i : ℕ) (places near : List ℕ) (known : ℕ) (asked : List ℕ) (count : ℕ) : Type 0 where
@@ -51,8 +61,7 @@ module _ {mem : List ℕ} {first : ℕ} {dx : List ℕ} {test : ℕ → Bool} {s
           ap (λ (w : List ℕ). word w t) isNears ∙ get_or-set_other near known t d 0 other ∙ l.nears t (omega (arith, other, isKnown'.1))
           ∙ ap (near_at mem first dx) (sym (ap (λ (w : List ℕ). word w t) isPlaces ∙ get_or-set_other places known t i 0 other))
 
-  pub looking_all : {i : ℕ} {places near : List ℕ} {known : ℕ} {asked : List ℕ} {count : ℕ} → Looking mem first dx test size i places near known asked count → i ≤ size → size ≤ i
-      → RowsLooked mem first dx test size places near known asked count
+  pub looking_all : {lists : RowLists} {i : ℕ} → Looking mem first dx test size i lists.places lists.near lists.known lists.asked lists.count → i ≤ size → size ≤ i → RowsLooked mem first dx test size lists
   looking_all l low high = record { knows = listing_all l.knows low high; nears = l.nears; asks = listing_all l.asks low high }
 
 -- under the names of a part's words

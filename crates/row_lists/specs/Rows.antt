@@ -5,6 +5,7 @@ use Rattle.words.specs.Limits.{FAR}
 use Rattle.words.specs.Lists.{word, up_to, keep}
 use Rattle.listing.specs.Lists.{Lists}
 use Rattle.part_words.specs.Part.{rows_in}
+use Rattle.row_lists.specs.declared.lists.RowLists.{RowLists}
 
 -- the vertex of row i, where the rows start at `first`; the part further down; and the distance that the row further down shows
 abbrev pub owner_at : List ℕ → ℕ → ℕ → ℕ
@@ -59,8 +60,13 @@ pub record OwnRow (mem : List ℕ) (first size i : ℕ) : Type 0 where
 abbrev pub Nears : List ℕ → ℕ → List ℕ → List ℕ → List ℕ → ℕ → Type 0
 Nears mem first dx places near known = (t : ℕ) → t < known → word near t ≡ near_at mem first dx (word places t)
 
+-- What picks rows by the distance of the vertex, the distance that the row shows and the address of the row further down picks those of the first `size` that
+-- pass a test.
+abbrev pub Picks : (mem : List ℕ) (first : ℕ) (dx : List ℕ) (size : ℕ) (Picked : ℕ → ℕ → ℕ → Bool → Type 0) (test : ℕ → Bool) → Type 0
+Picks mem first dx size Picked test = (i : ℕ) (is : Bool) → i < size → Picked (near_at mem first dx i) (row_word mem first i distance_in_row) (row_word mem first i below_in_row) is → is ≡ test i
+
 -- The first `done` rows are listed: the known ones with their distances, and those that are asked for, which are those that pass a test.
-pub record RowsLooked (mem : List ℕ) (first : ℕ) (dx : List ℕ) (test : ℕ → Bool) (done : ℕ) (places near : List ℕ) (known : ℕ) (asked : List ℕ) (count : ℕ) : Type 0 where
-  pub knows : Lists (is_known mem first dx) done places known
-  pub nears : Nears mem first dx places near known
-  pub asks : Lists test done asked count
+pub record RowsLooked (mem : List ℕ) (first : ℕ) (dx : List ℕ) (test : ℕ → Bool) (done : ℕ) (lists : RowLists) : Type 0 where
+  pub knows : Lists (is_known mem first dx) done lists.places lists.known
+  pub nears : Nears mem first dx lists.places lists.near lists.known
+  pub asks : Lists test done lists.asked lists.count

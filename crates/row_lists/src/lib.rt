@@ -2,128 +2,76 @@
 // `dx` has a distance for each vertex, FAR where none is known yet.
 #![tactic(auto)]
 
-ghost use Rattle.std.specs.Prelude.{◌≡◌, ◌&&◌, ◌||◌, ◌+◌, ◌*◌, ◌≤◌, ◌<◌, ◌^◌, length, leb, ltb};
+ghost use Rattle.std.specs.Prelude.{◌≡◌, Bool, ℕ, ◌+◌, ◌*◌, ◌≤◌, ◌<◌, ◌^◌, length, take, drop};
 ghost use Rattle.layout.specs.Layout.{words_in_row};
-ghost use Rattle.words.specs.Limits.{FAR};
 ghost use Rattle.words.specs.Lists.{word};
 ghost use Rattle.words.specs.Ranks.{rank};
-ghost use Rattle.row_lists.specs.Rows.{shows_own, RowsLooked, is_asked};
+ghost use Rattle.row_lists.specs.Rows.{shows_own, Picks, RowsLooked};
 
 use cells::{more, wide, word};
 use far_sums::FAR;
-use layout::RowRecord;
+use layout::{RowRecord, row_word};
+pub use lists::RowLists;
+use part_words::PartRows;
 
-// Word w of row i, where the rows start at `first`.
-pub fn row_word(mem: &[u32], first: usize, i: usize, w: usize) -> u32
-    requires { (first < 2 ^ 32) × (i ≤ 128) × (w < words_in_row) }
-    ensures { result ≡ word mem.now (first + words_in_row * i + w) }
+mod lists;
+
+// The words of a part's rows.
+pub fn rows_of(mem: &[u32], part: PartRows) -> &[u32]
+    requires { part.first + words_in_row * part.size ≤ length mem.now }
+    ensures { result.now ≡ take (words_in_row * part.size) (drop part.first mem.now) }
 {
-    word(mem, first + RowRecord::WORDS * i + w)
+    &mem[part.first..part.row(part.size)]
+}
+
+// Line i of a part's table: what the table says from row i to each row.
+pub fn line_of(mem: &[u32], part: PartRows, i: usize) -> &[u32]
+    requires { (i < part.size) × (part.table + part.size * part.size ≤ length mem.now) }
+    ensures { result.now ≡ take part.size (drop (part.table + part.size * i) mem.now) }
+{
+    &mem[part.line(i)..part.line(i + 1)]
 }
 
 // How many of a leaf's rows show their own vertex: those of its active vertices.
-pub fn active_rows(mem: &[u32], first: usize, size: usize) -> usize
-    requires { (first < 2 ^ 32) × (size ≤ 128) }
+pub fn active_rows(mem: &[u32], first: u32, size: usize) -> usize
+    requires { size ≤ 128 }
     ensures { (result ≡ rank (shows_own mem.now first) size) × (result ≤ size) }
 {
     let mut n = 0;
-    let mut i = 0;
-    while i < size {
-        let near = row_word(mem, first, i, RowRecord::DISTANCE);
+    for i in 0..size {
+        let near = row_word(mem, first, i as u32, RowRecord::DISTANCE);
         n = more(n, near == 0);
-        i += 1;
     }
     n
 }
 
-// A row's distance is asked for, where `near` is its vertex's distance so far and `shown` the distance that the row further down shows.
-fn is_asked(near: u32, shown: u32, all: bool) -> bool
-    ensures { result ≡ (leb FAR near && (all || ltb shown FAR)) }
-{
-    if near < FAR {
-        return false;
-    }
-    if all {
-        return true;
-    }
-    shown < FAR
-}
-
-// How many of a part's rows are listed as those whose vertices have a distance, and as those whose distance is asked for.
-#[derive(Clone, Copy)]
-pub struct Listed {
-    pub known: usize,
-    pub asked: usize,
-}
-
-// Lists the rows of both kinds among the first `size`, by their numbers, and the distances of the known ones.
-pub fn look(
+// Lists the rows of a part whose vertices have a distance, with these distances, and those that `is_asked` picks by its vertex's distance, by the distance that
+// the row shows and by the address of the row further down. Each number is written in any case, and counts if it is of such a row.
+pub fn look<F: Fn(u32, u32, u32) -> bool>(
     mem: &[u32],
-    first: usize,
-    size: usize,
-    all: bool,
+    part: PartRows,
     dx: &[u32],
-    places: &mut [u32],
-    near: &mut [u32],
-    asked: &mut [u32],
-) -> Listed
-    requires { (first < 2 ^ 32) × (size ≤ 128) × (first + words_in_row * size ≤ length mem.now) × (length places.old ≡ 128) × (length near.old ≡ 128) × (length asked.old ≡ 128) }
-    ensures { RowsLooked mem.now first dx.now (is_asked all mem.now first dx.now) size places.new near.new result.known asked.new result.asked }
+    lists: &mut RowLists,
+    is_asked: F,
+)
+    requires { (part.first + words_in_row * part.size ≤ length mem.now) × F.IsAlwaysCallable is_asked }
+    ensures { (test : ℕ → Bool) → Picks mem.now part.first dx.now part.size (F.post is_asked) test → RowsLooked mem.now part.first dx.now test part.size lists.new }
 {
-    let end = first + RowRecord::WORDS * size;
-    let rows = &mem[first..end];
+    let rows = rows_of(mem, part);
     let mut known = 0;
     let mut count = 0;
-    let mut i = 0;
-    while i < size {
-        let owner = rows[RowRecord::WORDS * i + RowRecord::OWN];
-        let below = wide(rows[RowRecord::WORDS * i + RowRecord::BELOW]);
-        let d = word(dx, wide(owner % RowRecord::CHILD));
-        let is = is_asked(d, word(mem, below + RowRecord::DISTANCE), all);
-        places[known] = i as u32;
-        near[known] = d;
-        asked[count] = i as u32;
-        known = more(known, d < FAR);
-        count = more(count, is);
-        i += 1;
-    }
-    Listed {
-        known: known,
-        asked: count,
-    }
-}
-
-// The same for a leaf, where the rows that show their own vertex are asked for, known or not.
-pub fn look_leaf(
-    mem: &[u32],
-    first: usize,
-    size: usize,
-    dx: &[u32],
-    places: &mut [u32],
-    near: &mut [u32],
-    asked: &mut [u32],
-) -> Listed
-    requires { (first < 2 ^ 32) × (size ≤ 128) × (first + words_in_row * size ≤ length mem.now) × (length places.old ≡ 128) × (length near.old ≡ 128) × (length asked.old ≡ 128) }
-    ensures { RowsLooked mem.now first dx.now (shows_own mem.now first) size places.new near.new result.known asked.new result.asked }
-{
-    let end = first + RowRecord::WORDS * size;
-    let rows = &mem[first..end];
-    let mut known = 0;
-    let mut count = 0;
-    let mut i = 0;
-    while i < size {
+    for i in 0..part.size {
         let shown = rows[RowRecord::WORDS * i + RowRecord::DISTANCE];
         let owner = rows[RowRecord::WORDS * i + RowRecord::OWN];
+        let below = rows[RowRecord::WORDS * i + RowRecord::BELOW];
         let d = word(dx, wide(owner % RowRecord::CHILD));
-        places[known] = i as u32;
-        near[known] = d;
-        asked[count] = i as u32;
+        let is = is_asked(d, shown, below);
+        lists.places[known] = i as u32;
+        lists.near[known] = d;
+        lists.asked[count] = i as u32;
         known = more(known, d < FAR);
-        count = more(count, shown == 0);
-        i += 1;
+        count = more(count, is);
     }
-    Listed {
-        known: known,
-        asked: count,
-    }
+    lists.known = known;
+    lists.count = count;
 }

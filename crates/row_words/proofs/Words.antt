@@ -1,33 +1,17 @@
--- A row read, shown, and as one number. Each law is over plain values, so that a need only names its facts.
+-- A row as one number.
 -- Assumes nothing.
-use mathlib.Core.Path.{◌≡◌, sym, ◌∙◌, ap}
+use mathlib.Core.Path.{◌≡◌, sym, ◌∙◌}
 use mathlib.Core.Bool.{false, ◌&&◌}
-use mathlib.Core.List.{List}
 use mathlib.Core.Logic.{inl, inr}
-use Prim.Native.Nat.{ℕ, ◌+◌, ◌/◌, ◌%◌, ◌≤◌, ◌<◌}
+use Prim.Native.Nat.{ℕ, ◌/◌, ◌%◌, ◌≤◌, ◌<◌}
 use native.Mathlib.Decide.{ℕ_discrete, dec_lt}
 use native.Mathlib.Omega.{arith}
-use lib.ListN.{get_or, set}
 use lib.Dec.{eqb, ltb}
 use borrow.Author.Tests.{lt-ltb, le-ltb, eq-eqb, ne_eqb}
 use Rattle.words.proofs.Tests.{PairBefore, pair_if}
 use Rattle.rows.specs.declared.Row.{Row}
 use Rattle.rows.specs.Row.{comes_before}
-use Rattle.row_words.specs.Words.{row_in, shown, source_in, placed, unplaced}
-
-module _ (mem : List ℕ) where
-  pub row_is : (at a b : ℕ) (row : Row) → (row.vertex ≡ a) × (row.distance ≡ b) → a ≡ get_or mem at 0 → b ≡ get_or mem (at + 1) 0 → row ≡ row_in mem at
-  row_is at a b row e p q = let v = e.0 ∙ p in let d = e.1 ∙ q in λ t. record { vertex = v t; distance = d t }
-
-  pub shown_is : (at : ℕ) (row : Row) (middle end : List ℕ) → middle ≡ set mem at row.vertex → end ≡ set middle (at + 1) row.distance → end ≡ shown mem at row
-  shown_is at row middle end p q = q ∙ ap (λ (l : List ℕ). set l (at + 1) row.distance) p
-
-  pub source_is : (row w below : ℕ) (out : Row) → w ≡ get_or mem (row + 3) 0 → below ≡ w → out ≡ row_in mem below → out ≡ source_in mem row
-  source_is row w below out p q r = r ∙ ap (row_in mem) (q ∙ p)
-
--- A row as one number.
-pub row_of_is : (place a b : ℕ) (row : Row) → (row.vertex ≡ a) × (row.distance ≡ b) → a ≡ place % 4294967296 → b ≡ place / 4294967296 → row ≡ unplaced place
-row_of_is place a b row e p q = let v = e.0 ∙ p in let d = e.1 ∙ q in λ t. record { vertex = v t; distance = d t }
+use Rattle.row_words.specs.Words.{placed, unplaced}
 
 pub placed_row : (v d : ℕ) → v < 4294967296 → unplaced (placed v d) ≡ record { vertex = v; distance = d }
 placed_row v d small =

@@ -1,5 +1,4 @@
 -- Laws of the walk along the links, of links, and of the vans and lists of a fleet in a memory.
-pub mod Chain
 pub mod Walk
 pub mod Found
 pub mod Links

@@ -3,7 +3,7 @@
 use mathlib.Core.Path.{◌≡◌, refl, sym, ◌∙◌, ap}
 use mathlib.Core.Bool.{true, false}
 use mathlib.Core.List.{List}
-use Prim.Native.Nat.{ℕ, zero, suc, ◌+◌, ◌-◌, ◌≤◌, ◌<◌}
+use Prim.Native.Nat.{ℕ, zero, suc, ◌+◌, ◌≤◌, ◌<◌}
 use native.Mathlib.Omega.{arith}
 use native.Mathlib.Decide.{dec_lt}
 use lib.ListN.{length}
@@ -19,7 +19,7 @@ use Rattle.van_lists.specs.Walk.{walk, behind}
 use Rattle.van_lists.proofs.Found.{Found, nothing, found}
 use Rattle.van_lists.proofs.Links.{heads_at, link_from, link_found, heading, slot_words}
 use Rattle.van_lists.proofs.Parked.{Parked, field}
-use Rattle.van_lists.proofs.Walk.{walk_end, walk_past, walk_on, walk_done}
+use Rattle.van_lists.proofs.Walk.{walk_stops, walk_on, walk_done}
 
 -- `at` is the address of the link that goes on to the free vans for `p` from number `a` on
 pub data LinkAt (m : Map) (counts : Counts) (s : State) (p a at : ℕ) : Type 0 where
@@ -50,26 +50,20 @@ module _ (m : Map) (counts : Counts) (s : State) (slots : length s.vans ≡ vans
         → ((b to : ℕ) → LinkAt m counts s p b to → b ≤ n → n ≤ b + left → Spot m counts s p n (walk mem counts n to left))
         → Spot m counts s p n (walk mem counts n at (suc left))
     walk_turn left a at link within far (nothing e none) rest =
-        rw (walk_end mem counts n at (suc left) (link_reads a at link ∙ e))
+        rw (walk_stops mem counts n at (suc left) (λ some. omega (arith, link_reads a at link, e)))
         (record { from = a; within = within; link = link; none = λ x h l. none x h (omega arith) })
     walk_turn left a at link within far (found x e from to passes before) rest =
         elim (dec_lt n (suc x)) [
           | yes past ↦
-              rw (walk_past mem counts n at (suc left) (omega (arith, reads)))
+              rw (walk_stops mem counts n at (suc left) (λ some. omega (arith, reads)))
               (record { from = a; within = within; link = link; none = λ y h l. before y h (omega arith) })
           | no on ↦
-              rw (walk_on mem counts n at (suc left) (omega arith) (omega (arith, reads)) (omega (arith, reads)))
-              (rw less (rest (suc x) (van_address counts (word mem at - 1) + next_in_van) (van_link x refl to passes next) (omega arith) (omega arith)))
+              rw (walk_on mem counts n at x left (omega (arith, reads)) (omega arith))
+              (rest (suc x) (van_address counts x + next_in_van) (van_link x refl to passes refl) (omega arith) (omega arith))
         ]
       where
         reads : word mem at ≡ suc x
         reads = link_reads a at link ∙ e
-
-        next : van_address counts (word mem at - 1) + next_in_van ≡ van_address counts x + next_in_van
-        next = ap (λ (k : ℕ). van_address counts (k - 1) + next_in_van) reads ∙ omega arith
-
-        less : suc left - 1 ≡ left
-        less = omega arith
 
     walk_spot : (left a at : ℕ) → LinkAt m counts s p a at → a ≤ n → n ≤ a + left → Spot m counts s p n (walk mem counts n at left)
     walk_spot zero a at link within far =

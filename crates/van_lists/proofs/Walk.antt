@@ -4,6 +4,7 @@ use mathlib.Core.Path.{◌≡◌, refl, ap}
 use mathlib.Core.List.{List}
 use Prim.Native.Nat.{ℕ, zero, suc, ◌+◌, ◌-◌, ◌≤◌, ◌<◌}
 use native.Mathlib.Omega.{arith}
+use native.Mathlib.Decide.{dec_lt}
 use borrow.Author.Tests.{eq-eqb, ne_eqb, lt-ltb, le-ltb}
 use Rattle.words.specs.Lists.{word}
 use Rattle.layout.specs.Layout.{next_in_van}
@@ -12,27 +13,27 @@ use Rattle.places.specs.Place.{van_address}
 use Rattle.van_lists.specs.Walk.{walk}
 
 module _ (mem : List ℕ) (counts : Counts) (van at : ℕ) where
-  pub walk_end : (left : ℕ) → word mem at ≡ 0 → walk mem counts van at left ≡ at
-  unfolding walk
-  walk_end zero e = refl
-  walk_end (suc left) e = rw (eq-eqb _ 0 e)
-
-  pub walk_past : (left : ℕ) → van < word mem at → walk mem counts van at left ≡ at
-  unfolding walk
-  walk_past zero h = refl
-  walk_past (suc left) h = rw (ne_eqb (word mem at) 0 (omega arith), lt-ltb _ _ h)
-
+  -- no link is left to take, or the one here leads nowhere or past the van
   pub walk_done : (left : ℕ) → left ≤ 0 → walk mem counts van at left ≡ at
   unfolding walk
   walk_done zero h = refl
   walk_done (suc left) h = absurd (omega arith)
 
-  pub walk_on : (left : ℕ) → 0 < left → (word mem at ≡ 0 → ⊥) → word mem at ≤ van
-      → walk mem counts van at left ≡ walk mem counts van (van_address counts (word mem at - 1) + next_in_van) (left - 1)
+  pub walk_stops : (left : ℕ) → (0 < word mem at → van < word mem at) → walk mem counts van at left ≡ at
   unfolding walk
-  walk_on zero some link within = absurd (omega arith)
-  walk_on (suc left) some link within =
-      rw (ne_eqb (word mem at) 0 link, le-ltb van (word mem at) within) (ap (walk mem counts van _) less)
+  walk_stops zero past = refl
+  walk_stops (suc left) past = elim (dec_lt 0 (word mem at)) [
+    | yes some ↦ rw (ne_eqb (word mem at) 0 (omega arith), lt-ltb van (word mem at) (past some))
+    | no none ↦ rw (eq-eqb (word mem at) 0 (omega arith))
+  ]
+
+  -- the link leads to an earlier van
+  pub walk_on : (other left : ℕ) → word mem at ≡ other + 1 → other < van
+      → walk mem counts van at (suc left) ≡ walk mem counts van (van_address counts other + next_in_van) left
+  unfolding walk
+  walk_on other left link before =
+      rw (ne_eqb (word mem at) 0 (omega arith), le-ltb van (word mem at) (omega arith))
+      (ap (λ (k : ℕ). walk mem counts van (van_address counts k + next_in_van) left) is)
     where
-      less : left ≡ suc left - 1
-      less = omega arith
+      is : word mem at - 1 ≡ other
+      is = omega arith

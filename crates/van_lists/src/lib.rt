@@ -14,9 +14,9 @@ use layout::{VanRecord, VertexRecord};
 use places::{van_at, vertex_at};
 
 // The first four words of a van's record.
-#[derive(Clone, Copy)]
+#[derive(Clone, Copy, Debug, PartialEq, Eq)]
 pub struct VanWords {
-    // 0 absent, 1 free, 1 + desk held
+    // 0 absent, 1 free, 1 + desk held; no enum, since the words of a forged memory may be any
     pub state: u32,
     pub road: u32,
     pub offset: u32,
@@ -28,9 +28,6 @@ impl VanWords {
     pub const VANS: u32 = VanRecord::VANS;
 
     pub const MOST_DESK: u32 = 255;
-
-    // The change count, and so the last stamp, at which no change is accepted any more.
-    pub const LAST_STAMP: u32 = 4294967295;
 
     pub const FREE: u32 = 1;
 
@@ -46,13 +43,9 @@ impl VanWords {
         ensures { result ≡ stamped self stamp }
     {
         if self.state == 0 {
-            return VanWords::ABSENT;
-        }
-        VanWords {
-            state: self.state,
-            road: self.road,
-            offset: self.offset,
-            stamp,
+            VanWords::ABSENT
+        } else {
+            VanWords { stamp, ..self }
         }
     }
 }
@@ -74,17 +67,14 @@ fn behind(mem: &[u32], counts: Counts, vertex: u32, van: u32) -> usize
     ensures { result ≡ behind mem.now counts vertex van }
 {
     let mut at = vertex_at(counts, vertex) + VertexRecord::VANS;
-    let mut left = van;
-    while 0 < left {
-        let link = word(mem, at);
-        if link == 0 {
+    for _ in 0..van {
+        let Some(other) = word(mem, at).checked_sub(1) else {
+            return at;
+        };
+        if van <= other {
             return at;
         }
-        if van < link {
-            return at;
-        }
-        at = van_at(counts, link - 1) + VanRecord::NEXT;
-        left -= 1;
+        at = van_at(counts, other) + VanRecord::NEXT;
     }
     at
 }
@@ -118,6 +108,7 @@ fn write_links(
 }
 
 // A free van leaves the list of the vertex that it heads for, and stands as `words` say.
+#[tactic(auto, unfolding(crate::specs::Walk::taken_out))]
 pub fn take_out(mem: &mut [u32], counts: Counts, van: u32, vertex: u32, words: VanWords)
     ensures { mem.new ≡ taken_out mem.old counts van vertex words }
 {
@@ -127,6 +118,7 @@ pub fn take_out(mem: &mut [u32], counts: Counts, van: u32, vertex: u32, words: V
 }
 
 // A van that is not free enters the list of a vertex, and stands as `words` say.
+#[tactic(auto, unfolding(crate::specs::Walk::put_in))]
 pub fn put_in(mem: &mut [u32], counts: Counts, van: u32, vertex: u32, words: VanWords)
     requires { van < vans }
     ensures { mem.new ≡ put_in mem.old counts van vertex words }

@@ -1,13 +1,12 @@
 -- The offers of a list of vans, one van at a time, and those of some rows, one row at a time.
 -- Assumes nothing.
 use mathlib.Core.Path.{◌≡◌, refl, sym, ap, ◌∙◌}
-use mathlib.Core.Logic.{◌≢◌}
 use mathlib.Core.List.{List, [], ◌∷◌, ◌++◌}
 use Prim.Native.Nat.{ℕ, zero, suc, ◌+◌, ◌-◌, ◌≤◌, ◌<◌, min}
 use native.Mathlib.Numerals.{add-one}
 use native.Mathlib.Omega.{arith}
-use lib.ListN.{length, take, length-take, drop_of_length-le}
-use lib.Seq.{slice, slice-cons}
+use lib.ListN.{length, drop, drop_of_length-le}
+use lib.Seq.{drop-cons}
 use borrow.Author.Tests.{lt-ltb, le-ltb}
 use Rattle.words.specs.Limits.{FAR}
 use Rattle.words.specs.Lists.{word}
@@ -46,15 +45,15 @@ module _ (mem : List ℕ) (counts : Counts) (near k : ℕ) (l : List Listed) whe
   vans_out zero link out e = e
   vans_out (suc left) link out e = absurd (omega arith)
 
-  vans_step : (left link van offset far next : ℕ) → 0 < left → link ≢ 0 → van ≡ link - 1 → offset ≡ word mem (van_address counts van + 2) → far ≡ min (near + offset) 4294967295
-      → next ≡ word mem (van_address counts van + 4) → offered_all k (offered k (listed (stamp_in mem counts) far van) l) (van_offers mem counts near (left - 1) next) ≡ offered_all k l (van_offers mem counts near left link)
+  vans_step : (left fewer link van offset far next : ℕ) → left ≡ suc fewer → 1 ≤ link → van ≡ link - 1 → offset ≡ word mem (van_address counts van + 2) → far ≡ min (near + offset) 4294967295
+      → next ≡ word mem (van_address counts van + 4) → offered_all k (offered k (listed (stamp_in mem counts) far van) l) (van_offers mem counts near fewer next) ≡ offered_all k l (van_offers mem counts near left link)
   unfolding offered_all van_offers
-  vans_step zero link van offset far next some real isVan isOffset isFar isNext = absurd (omega arith)
-  vans_step (suc n) zero van offset far next some real isVan isOffset isFar isNext = absurd (real refl)
-  vans_step (suc n) (suc v) van offset far next some real isVan isOffset isFar isNext =
+  vans_step zero fewer link van offset far next some real isVan isOffset isFar isNext = absurd (omega arith)
+  vans_step (suc n) fewer zero van offset far next some real isVan isOffset isFar isNext = absurd (omega arith)
+  vans_step (suc n) fewer (suc v) van offset far next some real isVan isOffset isFar isNext =
       let same : van ≡ v = omega arith in
-      let fewer : suc n - 1 ≡ n = omega arith in
-      λ i. offered_all k (offered k (listed (stamp_in mem counts) (far_is same i) (same i)) l) (van_offers mem counts near (fewer i) (next_is same i))
+      let one_less : fewer ≡ n = omega arith in
+      λ i. offered_all k (offered k (listed (stamp_in mem counts) (far_is same i) (same i)) l) (van_offers mem counts near (one_less i) (next_is same i))
     where
       far_is : van ≡ v → far ≡ min (near + word mem (van_address counts v + 2)) FAR
       far_is same = isFar ∙ ap (λ (o : ℕ). min (near + o) FAR) (isOffset ∙ ap (λ (w : ℕ). word mem (van_address counts w + 2)) same)
@@ -62,31 +61,31 @@ module _ (mem : List ℕ) (counts : Counts) (near k : ℕ) (l : List Listed) whe
       next_is : van ≡ v → next ≡ word mem (van_address counts v + 4)
       next_is same = isNext ∙ ap (λ (w : ℕ). word mem (van_address counts w + 4)) same
 
-  pub vans_again : {target after : List Listed} (left link van offset far next : ℕ) → 0 < left → link ≢ 0 → van ≡ link - 1 → offset ≡ word mem (van_address counts van + 2)
+  pub vans_again : {target after : List Listed} (left fewer link van offset far next : ℕ) → left ≡ suc fewer → 1 ≤ link → van ≡ link - 1 → offset ≡ word mem (van_address counts van + 2)
       → far ≡ min (near + offset) 4294967295 → next ≡ word mem (van_address counts van + 4) → after ≡ offered k (listed (stamp_in mem counts) far van) l
-      → offered_all k l (van_offers mem counts near left link) ≡ target → offered_all k after (van_offers mem counts near (left - 1) next) ≡ target
-  vans_again left link van offset far next some real isVan isOffset isFar isNext isAfter rest =
-      ap (λ (r : List Listed). offered_all k r (van_offers mem counts near (left - 1) next)) isAfter
-      ∙ vans_step left link van offset far next some real isVan isOffset isFar isNext
+      → offered_all k l (van_offers mem counts near left link) ≡ target → offered_all k after (van_offers mem counts near fewer next) ≡ target
+  vans_again left fewer link van offset far next some real isVan isOffset isFar isNext isAfter rest =
+      ap (λ (r : List Listed). offered_all k r (van_offers mem counts near fewer next)) isAfter
+      ∙ vans_step left fewer link van offset far next some real isVan isOffset isFar isNext
       ∙ rest
 
--- Some rows, one after the other: row number t is row i.
-module _ (mem : List ℕ) (counts : Counts) (first : ℕ) (dx rows : List ℕ) (k count t : ℕ) (h : t < count) (all : count ≤ length rows) (l target : List Listed)
-    (rest : offered_all k l (row_offers mem counts first dx (slice t count rows)) ≡ target) {read i : ℕ} (isRead : read ≡ word rows t) (is_row : i ≡ read) where
+-- Some rows, one after the other: number t is row i.
+module _ (mem : List ℕ) (counts : Counts) (first : ℕ) (dx rows : List ℕ) (k t : ℕ) (h : t < length rows) (l target : List Listed)
+    (rest : offered_all k l (row_offers mem counts first dx (drop t rows)) ≡ target) {i : ℕ} (is_row : i ≡ word rows t) where
   -- what is offered at row i, then the rows after it
-  next_row : offered_all k (offered_all k l (vertex_offers mem counts (row_owner mem first i) (word dx (row_owner mem first i)))) (row_offers mem counts first dx (slice (t + 1) count rows)) ≡ target
+  next_row : offered_all k (offered_all k l (vertex_offers mem counts (row_owner mem first i) (word dx (row_owner mem first i)))) (row_offers mem counts first dx (drop (t + 1) rows)) ≡ target
   unfolding row_offers
   next_row =
-      sym (offered_append k l (vertex_offers mem counts (row_owner mem first i) (word dx (row_owner mem first i))) (row_offers mem counts first dx (slice (t + 1) count rows)))
+      sym (offered_append k l (vertex_offers mem counts (row_owner mem first i) (word dx (row_owner mem first i))) (row_offers mem counts first dx (drop (t + 1) rows)))
       ∙ ap (λ (r : List ℕ). offered_all k l (row_offers mem counts first dx r)) next
       ∙ rest
     where
-      next : i ∷ slice (t + 1) count rows ≡ slice t count rows
-      next = (λ j. (is_row ∙ isRead) j ∷ slice (add-one t j) count rows) ∙ sym (slice-cons t count rows 0 h all)
+      next : i ∷ drop (t + 1) rows ≡ drop t rows
+      next = (λ j. is_row j ∷ drop (add-one t j) rows) ∙ sym (drop-cons rows t 0 h)
 
-  module _ {v w near : ℕ} (isOwner : v ≡ row_owner mem first i) (is_wide : w ≡ v) (isNear : near ≡ word dx w) where
+  module _ {v near : ℕ} (isOwner : v ≡ row_owner mem first i) (isNear : near ≡ word dx v) where
     near_is : near ≡ word dx (row_owner mem first i)
-    near_is = isNear ∙ ap (word dx) (is_wide ∙ isOwner)
+    near_is = isNear ∙ ap (word dx) isOwner
 
     none_near : FAR ≤ near → vertex_offers mem counts (row_owner mem first i) (word dx (row_owner mem first i)) ≡ []
     unfolding vertex_offers
@@ -97,23 +96,22 @@ module _ (mem : List ℕ) (counts : Counts) (first : ℕ) (dx rows : List ℕ) (
     unfolding vertex_offers
     some_near real = rw (lt-ltb (word dx (row_owner mem first i)) FAR (omega (arith, near_is)))
 
-    pub rows_skip : FAR ≤ near → offered_all k l (row_offers mem counts first dx (slice (t + 1) count rows)) ≡ target
+    pub rows_skip : FAR ≤ near → offered_all k l (row_offers mem counts first dx (drop (t + 1) rows)) ≡ target
     unfolding offered_all
     rows_skip far =
-        ap (λ (es : List Listed). offered_all k (offered_all k l es) (row_offers mem counts first dx (slice (t + 1) count rows))) (sym (none_near far)) ∙ next_row
+        ap (λ (es : List Listed). offered_all k (offered_all k l es) (row_offers mem counts first dx (drop (t + 1) rows))) (sym (none_near far)) ∙ next_row
 
     pub rows_offer : {link : ℕ} {after : List Listed} → near < FAR → link ≡ word mem (vertex_address counts v + 4) → after ≡ offered_all k l (van_offers mem counts near 1024 link)
-        → offered_all k after (row_offers mem counts first dx (slice (t + 1) count rows)) ≡ target
+        → offered_all k after (row_offers mem counts first dx (drop (t + 1) rows)) ≡ target
     rows_offer {link} {after} real isLink isAfter =
-        ap (λ (r : List Listed). offered_all k r (row_offers mem counts first dx (slice (t + 1) count rows)))
+        ap (λ (r : List Listed). offered_all k r (row_offers mem counts first dx (drop (t + 1) rows)))
         (isAfter
         ∙ (λ j. offered_all k l (van_offers mem counts (near_is j) 1024 ((isLink ∙ ap (λ (u : ℕ). word mem (vertex_address counts u + 4)) isOwner) j)))
         ∙ ap (offered_all k l) (sym (some_near real)))
         ∙ next_row
 
-pub rows_done : (mem : List ℕ) (counts : Counts) (first : ℕ) (dx rows : List ℕ) (k count t : ℕ) → count ≤ t → (l target : List Listed)
-    → offered_all k l (row_offers mem counts first dx (slice t count rows)) ≡ target → l ≡ target
+pub rows_done : (mem : List ℕ) (counts : Counts) (first : ℕ) (dx rows : List ℕ) (k t : ℕ) → length rows ≤ t → (l target : List Listed)
+    → offered_all k l (row_offers mem counts first dx (drop t rows)) ≡ target → l ≡ target
 unfolding row_offers offered_all
-rows_done mem counts first dx rows k count t h l target rest =
-    let none : slice t count rows ≡ [] = drop_of_length-le (take count rows) {i = t} (omega (arith, length-take count rows)) in
-    ap (λ (r : List ℕ). offered_all k l (row_offers mem counts first dx r)) (sym none) ∙ rest
+rows_done mem counts first dx rows k t h l target rest =
+    ap (λ (r : List ℕ). offered_all k l (row_offers mem counts first dx r)) (sym (drop_of_length-le rows {i = t} h)) ∙ rest

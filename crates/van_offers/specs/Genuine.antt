@@ -7,8 +7,7 @@ use Rattle.fleet.specs.Good.{Good}
 use Rattle.fleet.specs.Question.{Listed}
 use Rattle.image.specs.Image.{image}
 use Rattle.places.specs.Place.{counts_in}
-use Rattle.best_list.specs.declared.BestList.{BestList}
-use Rattle.best_list.specs.Best.{entries}
+use Rattle.best_list.specs.Best.{Best, entries}
 use Rattle.van_offers.specs.Offers.{stamp_in}
 
 -- words that an opening of m and changes that led to s left behind
@@ -18,8 +17,5 @@ pub record Genuine (m : Map) (s : State) (mem : List ℕ) : Type 0 where
   pub is : mem ≡ image m s
 
 -- the entries of the best, with the stamps that the memory shows
-abbrev pub list_of : (mem fars vans : List ℕ) (len : ℕ) → List Listed
-list_of mem fars vans len = entries (stamp_in mem (counts_in mem)) fars vans len
-
-abbrev pub list_in : List ℕ → BestList → List Listed
-list_in mem best = list_of mem best.fars best.vans best.len
+abbrev pub list_in : List ℕ → Best → List Listed
+list_in mem best = entries (stamp_in mem (counts_in mem)) best

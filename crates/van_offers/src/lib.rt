@@ -1,16 +1,16 @@
 // The free vans that head for a vertex, and those that head for the vertices of some rows, offered to the list of the best.
 #![tactic(auto)]
 
-ghost use Rattle.std.specs.Prelude.{◌≡◌, ◌+◌, ◌*◌, ◌≤◌, ◌<◌, ◌^◌, length, take};
+ghost use Rattle.std.specs.Prelude.{◌≡◌, ◌+◌, ◌<◌, ◌^◌};
 ghost use Rattle.words.specs.Limits.{vans as mostVans};
 ghost use Rattle.words.specs.Lists.{word};
 ghost use Rattle.layout.specs.Layout.{words_in_vertex, words_in_van};
 ghost use Rattle.places.specs.Place.{vertex_address, van_address};
-ghost use Rattle.best_list.specs.Best.{entries, offered_all, InOrder};
+ghost use Rattle.best_list.specs.Best.{entries, offered_all};
 ghost use Rattle.van_offers.specs.Offers.{stamp_in, van_offers, row_offers};
 
-use best_list::{limit_of, offer};
-use cells::{wide, word};
+use best_list::{BestList, Offer};
+use cells::word;
 use counts::Counts;
 use far_sums::{FAR, far_sum};
 use layout::{RowRecord, VanRecord, VertexRecord};
@@ -32,38 +32,24 @@ pub fn vertex_word(mem: &[u32], counts: Counts, vertex: u32, w: usize) -> u32
     word(mem, vertex_at(counts, vertex) + w)
 }
 
-// The list of vans that starts at a link, each at its offset beyond `near`. How many are listed then.
-pub fn offer_vans(
-    mem: &[u32],
-    counts: Counts,
-    first: u32,
-    near: u32,
-    fars: &mut [u32; 32],
-    vans: &mut [u32; 32],
-    len: usize,
-    k: usize,
-) -> usize
-    requires { (len ≤ k) × (1 ≤ k) × (k ≤ 32) × InOrder fars.old vans.old len }
-    ensures { (result ≤ k) × InOrder fars.new vans.new result × (entries (stamp_in mem.now counts) fars.new vans.new result ≡ offered_all k (entries (stamp_in mem.now counts) fars.old vans.old len) (van_offers mem.now counts near mostVans first)) }
+// The list of vans that starts at a link, each at its offset beyond `near`.
+pub fn offer_vans(mem: &[u32], counts: Counts, first: u32, near: u32, list: &mut BestList)
+    ensures k { list.new.k ≡ list.old.k }
+    ensures list { entries (stamp_in mem.now counts) list.new ≡ offered_all list.old.k (entries (stamp_in mem.now counts) list.old) (van_offers mem.now counts near mostVans first) }
 {
-    if limit_of(fars, len, k) < near {
-        return len;
+    if list.limit() < near {
+        return;
     }
-    let mut n = len;
     let mut link = first;
-    let mut left = VanRecord::VANS;
-    while 0 < left {
-        if link == 0 {
-            return n;
-        }
-        let van = link - 1;
+    for _ in 0..VanRecord::VANS {
+        let Some(van) = link.checked_sub(1) else {
+            return;
+        };
         let far = far_sum(near, van_word(mem, counts, van, VanRecord::OFFSET));
         let next = van_word(mem, counts, van, VanRecord::NEXT);
-        n = offer(fars, vans, n, k, far, van);
+        list.offer(Offer { far, van });
         link = next;
-        left -= 1;
     }
-    n
 }
 
 // The vans of the vertices of some rows, of which `rows` has the numbers; `dx` has the vertices' distances.
@@ -72,27 +58,20 @@ pub fn offer_rows(
     counts: Counts,
     first: usize,
     rows: &[u32],
-    count: usize,
     dx: &[u32],
-    fars: &mut [u32; 32],
-    vans: &mut [u32; 32],
-    len: usize,
-    k: usize,
-) -> usize
-    requires { (len ≤ k) × (1 ≤ k) × (k ≤ 32) × InOrder fars.old vans.old len × (first < 2 ^ 32) × (count ≤ length rows.now) }
-    ensures { (result ≤ k) × InOrder fars.new vans.new result × (entries (stamp_in mem.now counts) fars.new vans.new result ≡ offered_all k (entries (stamp_in mem.now counts) fars.old vans.old len) (row_offers mem.now counts first dx.now (take count rows.now))) }
+    list: &mut BestList,
+)
+    requires { first < 2 ^ 32 }
+    ensures k { list.new.k ≡ list.old.k }
+    ensures list { entries (stamp_in mem.now counts) list.new ≡ offered_all list.old.k (entries (stamp_in mem.now counts) list.old) (row_offers mem.now counts first dx.now rows.now) }
 {
-    let mut list = len;
-    let mut t = 0;
-    while t < count {
-        let i = wide(word(rows, t));
-        let v = word(mem, first + RowRecord::WORDS * i + RowRecord::OWN) % RowRecord::CHILD;
-        let near = word(dx, wide(v));
+    for i in rows {
+        let row = first + RowRecord::WORDS * *i as usize;
+        let v = word(mem, row + RowRecord::OWN) % RowRecord::CHILD;
+        let near = word(dx, v as usize);
         if near < FAR {
             let link = vertex_word(mem, counts, v, VertexRecord::VANS);
-            list = offer_vans(mem, counts, link, near, fars, vans, list, k);
+            offer_vans(mem, counts, link, near, list);
         }
-        t += 1;
     }
-    list
 }

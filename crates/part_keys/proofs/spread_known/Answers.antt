@@ -1,69 +1,55 @@
 -- `spread_known` gives keys, row by row.
 -- Assumes nothing.
 use mathlib.Core.Path.{◌≡◌, refl, sym, ap, ◌∙◌}
-use Prim.Native.Nat.{◌+◌, ◌*◌, ◌<◌}
+use Prim.Native.Nat.{◌+◌, ◌*◌, ◌/◌, ◌<◌}
 use native.Mathlib.Omega.{arith}
+use lib.ListN.{length, length-append}
 use Rattle.words.specs.Lists.{word}
+use Rattle.part_keys.specs.Keys.{far_count}
 use Rattle.row_lists.specs.Rows.{near_at}
-use Rattle.row_lists.proofs.Rows.{rows_fit, row_read}
-use Rattle.part_keys.proofs.Spreading.{key_read}
-use Rattle.part_keys.proofs.Spreading.{spread_none, spread_more, spread_all}
+use Rattle.row_lists.proofs.Pairs.{pair_turn, pair_end}
+use Rattle.row_lists.proofs.Rows.{row_read}
+use Rattle.part_keys.proofs.Spreading.{key_read, far_lowered, total_more}
+use Rattle.part_keys.proofs.Spreading.{spread_none, spread_more, spread_count}
+use borrow.Author.Rules.{rules}
 use Rattle.part_keys.proofs.spread_known.Goals as goal
 
-pub loop-t-init : goal.loop-t-init
-loop-t-init c =
-    (omega arith, λ dx nears. spread_none c.args.places.now c.requires.4)
+pub loop-place-init : goal.loop-place-init
+loop-place-init c = record {
+  no_more = omega arith;
+  room = omega (arith, c.args.waiting.now.room);
+  spread = λ dx nears. spread_none c.args.lists.now.places (search rules);
+}
 
-pub loop-t-preserved : goal.loop-t-preserved
-loop-t-preserved c =
-    let row_is : c.wide-i.result ≡ word c.args.places.now c.loop-t.t = c.wide-i.ensures ∙ c.word.ensures in
-    let here = (let it : c.wide-i.result < c.args.size = omega (arith, c.wide-i.ensures ∙ c.word.ensures, c.requires.5 c.loop-t.t c.loop-t-test.true) in it) in
-    let owner-is = row_read c.args.mem.now c.args.first c.args.size c.wide-i.result 2 here (omega arith) in (
-      omega arith,
-      λ dx nears.
-          let near_is = c.word-in-loop-t-2.ensures ∙ nears c.loop-t.t c.loop-t-test.true ∙ ap (near_at c.args.mem.now c.args.first dx) (sym row_is) in
-          let key_is = key_read c.args.mem.now c.args.first dx c.wide-i.result (row_read c.args.mem.now c.args.first c.args.size c.wide-i.result 3 here (omega arith)) c.wide-below.ensures c.word-in-loop-t.ensures near_is c.far_sum-key.ensures in
-          spread_more c.args.places.now (c.loop-t.invariant.1 dx nears) c.requires.3 row_is key_is owner-is refl c.lower_key-waiting.ensures.0 c.lower_key-waiting.ensures.1 c.lower_key-waiting.ensures.2,
-    )
+pub loop-place-preserved : goal.loop-place-preserved
+loop-place-preserved c =
+    let mem = c.args.mem.now in
+    let first = c.args.part.first in
+    let places = c.args.lists.now.places in
+    let t = length c.loop-place.yielded in
+    let turn = pair_turn places c.args.lists.now.near c.args.lists.now.known c.loop-place.yielded c.into_iter-place-iterator.result c.loop-place.place-iterator c.next.new.self _ (cc) (cc) c.loop-place.yielded_by _ c.in-Some.is c.next.ensures.steps in
+    let row_is : c.wide-i.result ≡ word places t = omega (arith, c.wide-i.ensures, turn.1) in
+    let here : c.wide-i.result < c.args.part.size = omega (arith, row_is, c.requires.1 t turn.0) in
+    let child = word c.rows_of-rows.result.now (4 * c.wide-i.result + 2) / 65536 in
+    let sum = total_more c.loop-place.waiting.keys child c.far_sum-key.result c.loop-place.n c.lower_key-n.ensures.0 c.lower_key-n.ensures.2 in
+    let fewer = far_lowered c.loop-place.waiting.keys child c.far_sum-key.result in
+    record {
+      no_more = omega (arith, sum, c.loop-place.invariant.no_more);
+      room = omega (arith, ap far_count c.lower_key-n.ensures.0, fewer, c.loop-place.invariant.room);
+      spread = λ dx nears.
+          let near_is = turn.2 ∙ nears t turn.0 ∙ ap (near_at mem first dx) (sym row_is) in
+          let key_is = key_read mem first dx c.wide-i.result (row_read mem first c.args.part.size c.rows_of-rows.ensures c.wide-i.result 3 here (omega arith)) c.wide-below.ensures c.word.ensures near_is c.far_sum-key.ensures in
+          spread_count places (sym (length-append c.loop-place.yielded _))
+          (spread_more places (c.loop-place.invariant.spread dx nears) c.args.waiting.now.room row_is key_is (row_read mem first c.args.part.size c.rows_of-rows.ensures c.wide-i.result 2 here (omega arith)) refl c.lower_key-n.ensures.0 c.lower_key-n.ensures.1 c.lower_key-n.ensures.2);
+    }
 
 pub returns : goal.returns
 returns c =
-    λ dx nears. spread_all c.args.places.now (c.loop-t.invariant.1 dx nears) c.loop-t.invariant.0 c.loop-t-test.false
+    let all = pair_end c.args.lists.now.places c.args.lists.now.near c.args.lists.now.known c.loop-place.yielded c.into_iter-place-iterator.result c.loop-place.place-iterator c.next.new.self _ (cc) (cc) c.loop-place.yielded_by (sym (ap length c.places.ensures.0) ∙ c.places.ensures.1) (sym (ap length c.near.ensures.0) ∙ c.near.ensures.1) c.in-None.is c.next.ensures.steps in
+    (c.loop-place.invariant.no_more, λ dx nears. spread_count c.args.lists.now.places all (c.loop-place.invariant.spread dx nears))
 
-pub overflow_mul-owner : goal.overflow_mul-owner
-overflow_mul-owner c = omega (arith, (let it : c.wide-i.result < c.args.size = omega (arith, c.wide-i.ensures ∙ c.word.ensures, c.requires.5 c.loop-t.t c.loop-t-test.true) in it))
-
-pub overflow_add-owner : goal.overflow_add-owner
-overflow_add-owner c = omega (arith, (let it : c.wide-i.result < c.args.size = omega (arith, c.wide-i.ensures ∙ c.word.ensures, c.requires.5 c.loop-t.t c.loop-t-test.true) in it))
-
-pub offset_bounds-rows-i : goal.offset_bounds-rows-i
-offset_bounds-rows-i c = omega (arith, (let it : c.wide-i.result < c.args.size = omega (arith, c.wide-i.ensures ∙ c.word.ensures, c.requires.5 c.loop-t.t c.loop-t-test.true) in it))
-
-pub bounds-rows-i : goal.bounds-rows-i
-bounds-rows-i c =
-    omega (arith, (let it : c.wide-i.result < c.args.size = omega (arith, c.wide-i.ensures ∙ c.word.ensures, c.requires.5 c.loop-t.t c.loop-t-test.true) in it), rows_fit c.args.mem.now c.args.first c.args.size c.requires.2)
-
-pub overflow_mul-i : goal.overflow_mul-i
-overflow_mul-i c = omega (arith, (let it : c.wide-i.result < c.args.size = omega (arith, c.wide-i.ensures ∙ c.word.ensures, c.requires.5 c.loop-t.t c.loop-t-test.true) in it))
-
-pub overflow_add-i : goal.overflow_add-i
-overflow_add-i c = omega (arith, (let it : c.wide-i.result < c.args.size = omega (arith, c.wide-i.ensures ∙ c.word.ensures, c.requires.5 c.loop-t.t c.loop-t-test.true) in it))
-
-pub offset_bounds-rows-i-in-loop-t : goal.offset_bounds-rows-i-in-loop-t
-offset_bounds-rows-i-in-loop-t c = omega (arith, (let it : c.wide-i.result < c.args.size = omega (arith, c.wide-i.ensures ∙ c.word.ensures, c.requires.5 c.loop-t.t c.loop-t-test.true) in it))
-
-pub bounds-rows-i-in-loop-t : goal.bounds-rows-i-in-loop-t
-bounds-rows-i-in-loop-t c =
-    omega (arith, (let it : c.wide-i.result < c.args.size = omega (arith, c.wide-i.ensures ∙ c.word.ensures, c.requires.5 c.loop-t.t c.loop-t-test.true) in it), rows_fit c.args.mem.now c.args.first c.args.size c.requires.2)
-
-pub overflow_add-below : goal.overflow_add-below
-overflow_add-below c =
-    omega (arith, c.wide-below.ensures, c.type_inv.rows (4 * c.wide-i.result + 3))
-
-pub lower_key-waiting-requires : goal.lower_key-waiting-requires
-lower_key-waiting-requires c =
-    omega (arith, (c.loop-t.invariant.1 c.requires.6.0 c.requires.6.1).total, c.requires.3)
-
-pub shape_of-waits : goal.shape_of-waits
-shape_of-waits c =
-    (c.loop-t.invariant.1 c.requires.6.0 c.requires.6.1).waits_length ∙ sym c.requires.4
+pub invariant_of-waiting : goal.invariant_of-waiting
+invariant_of-waiting c =
+    let child = word c.rows_of-rows.result.now (4 * c.wide-i.result + 2) / 65536 in
+    let fewer = far_lowered c.loop-place.waiting.keys child c.far_sum-key.result in
+    record { room = omega (arith, ap far_count c.lower_key-n.ensures.0, fewer, c.loop-place.invariant.room) }

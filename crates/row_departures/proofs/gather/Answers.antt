@@ -1,13 +1,13 @@
--- `row_departures::gather` is `gathered`: what is left to gather from here stays the whole.
+-- `row_departures::gather` is `gathered`.
 use mathlib.Core.Path.{sym, ◌∙◌}
+use Prim.Native.Nat.{◌+◌}
 use Rattle.row_departures.proofs.Keys.{gathered_turn, gathered_done}
-use native.Mathlib.Omega.{arith}
 use Rattle.row_departures.proofs.gather.Goals as goal
 
-pub loop-k-preserved : goal.loop-k-preserved
-loop-k-preserved c =
-    (omega arith, gathered_turn c.args.keys.now c.args.steps.now c.args.mem.now c.args.column c.loop-k.k c.loop-k.best _ _ (omega arith) (omega (arith, c.requires.long)) c.key_seen.ensures c.lesser_wide-best.ensures ∙ c.loop-k.invariant.1)
+pub loop-source-preserved : goal.loop-source-preserved
+loop-source-preserved c =
+    gathered_turn c.args.sources.now c.args.mem.now (c.args.part.table + c.args.i) c.loop-source.source-index c.loop-source.best _ _ _ c.loop-source-test.true c.key_seen.ensures c.min-best.ensures ∙ c.loop-source.invariant
 
 pub returns : goal.returns
 returns c =
-    sym (gathered_done c.args.keys.now c.args.steps.now c.args.mem.now c.args.column c.loop-k.k c.loop-k.best c.loop-k-test.false) ∙ c.loop-k.invariant.1
+    sym (gathered_done c.args.sources.now c.args.mem.now (c.args.part.table + c.args.i) c.loop-source.source-index c.loop-source.best c.loop-source-test.false) ∙ c.loop-source.invariant

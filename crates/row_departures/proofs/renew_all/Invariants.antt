@@ -1,11 +1,9 @@
 use mathlib.Core.Path.{◌≡◌}
-use Prim.Native.Nat.{◌-◌, ◌≤◌}
-use lib.ListN.{length, drop}
+use lib.ListN.{drop}
 use Rattle.row_departures.specs.Departure.{renewed}
 use Rattle.row_departures.proofs.renew_all.Given as goal
 
-abbrev pub invariant-loop-k : goal.invariant-loop-k
-invariant-loop-k l = (length l.mem ≡ length l.initial.mem) × (l.k ≤ length l.numbers) × (renewed (drop l.k l.numbers) l.mem l.keys l.steps l.rows l.table ≡ renewed l.numbers l.initial.mem l.keys l.steps l.rows l.table)
-
-abbrev pub decreases-loop-k : goal.decreases-loop-k
-decreases-loop-k l = length l.numbers - l.k
+-- what is left to make anew from here stays the whole
+abbrev pub invariant-loop-i : goal.invariant-loop-i
+invariant-loop-i l =
+    renewed (drop l.i-index l.numbers) l.mem l.sources l.part.first l.part.table ≡ renewed l.numbers l.initial.mem l.sources l.part.first l.part.table

@@ -1,10 +1,7 @@
-use Prim.Native.Nat.{◌-◌, ◌≤◌}
+use lib.ListN.{length}
 use Rattle.far_sums.specs.Least.{Least}
 use Rattle.row_distances.specs.Distances.{way_over}
 use Rattle.row_distances.proofs.least_in.Given as goal
 
-abbrev pub invariant-loop-t : goal.invariant-loop-t
-invariant-loop-t l = (l.t ≤ l.count) × Least (way_over l.row l.places l.near) l.t l.least
-
-abbrev pub decreases-loop-t : goal.decreases-loop-t
-decreases-loop-t l = l.count - l.t
+abbrev pub invariant-loop-place : goal.invariant-loop-place
+invariant-loop-place l = Least (way_over l.line l.lists.places l.lists.near) (length l.yielded) l.least

@@ -1,15 +1,10 @@
-use mathlib.Core.Path.{◌≡◌, refl, sym, ◌∙◌}
-use Prim.Native.Nat.{ℕ, ◌+◌, ◌-◌, ◌*◌, ◌≤◌}
-use native.Mathlib.Omega.{arith}
-use lib.ListN.{length, length-set}
-use Rattle.row_lists.specs.Rows.{is_asked}
-use Rattle.row_lists.proofs.Rows.{rows_fit, row_read}
-use Rattle.row_lists.proofs.Rows.{near_read, asked_read}
-use Rattle.row_lists.proofs.Looking.{Looking, looking_none, looking_more, looking_all}
+use mathlib.Core.Bool.{Bool}
+use Prim.Native.Nat.{ℕ, ◌≤◌}
+use Rattle.row_lists.specs.Rows.{Picks}
+use Rattle.row_lists.proofs.Looking.{Looking}
 use Rattle.row_lists.proofs.look.Given as goal
 
 abbrev pub invariant-loop-i : goal.invariant-loop-i
-invariant-loop-i l = (l.i ≤ l.size) × Looking l.mem l.first l.dx (is_asked l.all l.mem l.first l.dx) l.size l.i l.places l.near l.known l.asked l.count × (length l.places ≡ 128) × (length l.near ≡ 128) × (length l.asked ≡ 128)
-
-abbrev pub decreases-loop-i : goal.decreases-loop-i
-decreases-loop-i l = l.size - l.i
+invariant-loop-i g l =
+    (l.known ≤ l.i) × (l.count ≤ l.i)
+    × ((test : ℕ → Bool) → Picks l.mem l.fn.part.first l.dx l.fn.part.size (goal.F-post g l.is_asked) test → Looking l.mem l.fn.part.first l.dx test l.fn.part.size l.i l.lists.places l.lists.near l.known l.lists.asked l.count)

@@ -1,11 +1,9 @@
-use mathlib.Core.Path.{◌≡◌, sym, ◌∙◌}
-use native.Mathlib.Omega.{arith}
+-- `van_lists::behind`: what is left to walk from here stays the whole walk.
+-- Assumes nothing.
+use Prim.Native.Nat.{◌-◌}
+use mathlib.Core.Path.{◌≡◌}
 use Rattle.van_lists.specs.Walk.{walk, behind}
-use Rattle.van_lists.proofs.Walk.{walk_end, walk_past, walk_on, walk_done}
 use Rattle.van_lists.proofs.behind.Given as goal
 
-abbrev pub invariant-loop-left : goal.invariant-loop-left
-invariant-loop-left l = walk l.mem l.counts l.van l.at l.left ≡ behind l.mem l.counts l.vertex l.van
-
-abbrev pub decreases-loop-left : goal.decreases-loop-left
-decreases-loop-left l = l.left
+abbrev pub invariant-loop : goal.invariant-loop
+invariant-loop l = walk l.mem l.counts l.van l.at (l.van - l.counter) ≡ behind l.mem l.counts l.vertex l.van

@@ -1,0 +1,2 @@
+-- What the head of a memory tells.
+pub mod Used

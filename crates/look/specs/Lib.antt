@@ -1,0 +1,2 @@
+-- What a lookup gets in the words used.
+pub mod Looked

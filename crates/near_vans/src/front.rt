@@ -1,0 +1,146 @@
+// The vertices around the caller that a search has reached: which of them were taken, and which wait, each with a label.
+ghost use Rattle.std.specs.Prelude.{◌≡◌, ◌<◌, ◌≤◌, MatchOption, length, slice_index, EachIndex};
+
+use counts::Counts;
+use far_sums::far_sum;
+use layout::RoadRecord;
+use places::road_at;
+use std::marker::Model;
+
+// How many vertices can wait, and how many roads into a vertex are looked at.
+const ROOM: usize = 128;
+
+const MOST_ROADS: usize = 64;
+
+// How many vertices a map has at most.
+const VERTICES: u32 = 4096;
+
+// In `at`: a vertex that was taken. Else 0, or 1 + the vertex's place among those that wait.
+const TAKEN: u8 = 255;
+
+// The first `len` wait. Labels stand side by side and not beside their vertices: the least of them is looked for at each turn.
+#[derive(Drop)]
+pub struct Front {
+    at: [u8; 4096],
+    labels: [u32; 128],
+    vertices: [u32; 128],
+    len: usize,
+}
+
+impl Model for Front {
+    ghost use Rattle.std.specs.Prelude.{◌≤◌};
+    ghost use Rattle.near_vans.specs.Around.{Waits};
+
+    ghost Value = { Waits };
+
+    ghost view = { λ f. record { at = f.at; labels = f.labels; vertices = f.vertices; n = f.len } };
+
+    ghost invariant = { λ f. f.len ≤ 128 };
+}
+
+// The place of the least label, and that label.
+fn least_of(labels: &[u32]) -> Option<(usize, u32)>
+    ensures { MatchOption result (length labels.now ≡ 0) (λ m. (m.0 < length labels.now) × (slice_index labels.now m.0 ≡ m.1) × EachIndex labels.now (λ i. m.1 ≤ slice_index labels.now i)) }
+{
+    labels
+        .iter()
+        .copied()
+        .enumerate()
+        .min_by_key(|(_, label)| *label)
+}
+
+impl Front {
+    ghost use Rattle.std.specs.Prelude.{◌≡◌, ◌%◌, ◌<◌, IfSome, MatchOption};
+    ghost use Rattle.words.specs.Lists.{word};
+    ghost use Rattle.near_vans.specs.Around.{NothingTaken, LeastLabel, Taken, HasPlace, Met, MetAll};
+
+    // No vertex was taken, and none waits.
+    pub fn new() -> Self
+        ensures { NothingTaken result }
+    {
+        Front {
+            at: [0; 4096],
+            labels: [0; 128],
+            vertices: [0; 128],
+            len: 0,
+        }
+    }
+
+    // The place of the least label, and that label, where any vertex waits.
+    pub fn least(&self) -> Option<(usize, u32)>
+        ensures { MatchOption result (self.now.n ≡ 0) (λ (i, low). LeastLabel self.now.labels self.now.n i × (low ≡ word self.now.labels i)) }
+    {
+        least_of(&self.labels[..self.len])
+    }
+
+    // The vertex at place i is taken: the last of those that wait gets its place.
+    pub fn take(&mut self, i: usize) -> u32
+        requires { i < self.old.n }
+        ensures { Taken i self.old self.new result }
+    {
+        self.len -= 1;
+        let v = self.vertices[i];
+        let moved = self.vertices[self.len];
+        self.labels[i] = self.labels[self.len];
+        self.vertices[i] = moved;
+        self.at[(moved % VERTICES) as usize] = (i + 1) as u8;
+        self.at[(v % VERTICES) as usize] = TAKEN;
+        v
+    }
+
+    // The place at which vertex u waits.
+    fn place_of(&self, u: usize) -> Option<usize>
+        requires { u < 4096 }
+        ensures { HasPlace u self.now result }
+    {
+        let i = usize::from(self.at[u]).checked_sub(1)?;
+        if i < self.len && self.vertices[i] as usize == u {
+            Some(i)
+        } else {
+            None
+        }
+    }
+
+    // A vertex was met at distance `far`: it waits now, with no more than that, if it was not taken. There may be no room.
+    pub fn meet(&mut self, vertex: u32, far: u32) -> Option<()>
+        ensures { IfSome result (λ _. Met (vertex % 4096) far self.old self.new) }
+    {
+        let u = (vertex % VERTICES) as usize;
+        if self.at[u] == TAKEN {
+            return Some(());
+        }
+        if let Some(i) = self.place_of(u) {
+            if far < self.labels[i] {
+                self.labels[i] = far;
+            }
+            return Some(());
+        }
+        if self.len == ROOM {
+            return None;
+        }
+        self.labels[self.len] = far;
+        self.vertices[self.len] = u as u32;
+        self.len += 1;
+        self.at[u] = self.len as u8;
+        Some(())
+    }
+
+    // The roads that end at a vertex, of which `first` is the link to the first, where the vertex was taken at distance `near`: those that they come from
+    // are met. There may be no room, or too many roads.
+    pub fn meet_all(&mut self, mem: &[u32], counts: Counts, first: u32, near: u32) -> Option<()>
+        ensures { IfSome result (λ _. MetAll mem.now counts first near self.old self.new) }
+    {
+        let mut link = first;
+        for _ in 0..MOST_ROADS {
+            let Some(number) = link.checked_sub(1) else {
+                return Some(());
+            };
+            let r = road_at(counts, number);
+            let road = mem.get(r..r + RoadRecord::WORDS)?;
+            let far = far_sum(near, road[RoadRecord::WEIGHT]);
+            link = road[RoadRecord::NEXT];
+            self.meet(road[RoadRecord::FROM], far)?;
+        }
+        None
+    }
+}
