@@ -23,8 +23,6 @@ use Rattle.parts.proofs.Tree.{Above, Falls, above_least, in_part_if, holds_if, h
 use Rattle.parts.proofs.Down.{children_says, children_has, leaf_childless}
 use Rattle.maps.specs.Bytes.{field, road_shown, roads_of}
 use Rattle.maps.specs.Rules.{borders_fit}
-use Rattle.map_bytes.specs.Each.{each_from}
-use Rattle.map_bytes.proofs.Each.{each_all}
 use Rattle.map_parts.specs.Tally.{Tallied}
 use Rattle.map_parts.proofs.Fits.{homes_are}
 use Rattle.map_borders.specs.Lift.{most_steps, meet, road_meet, outside, Lifted}
@@ -194,11 +192,10 @@ module _ {m : Map} {parents leaves body : List ℕ} {vertices roads parts : ℕ}
 
   -- a leaf has at most 32 vertices, so only borders can be too many
   module _ (sizes : List ℕ) (sized : Sizes m sizes) where
-    pub borders_fit_is : each_from (few_at sizes) 0 parts ≡ borders_fit m
+    pub borders_fit_is : all (few_at sizes) (up_to parts) ≡ borders_fit m
     unfolding borders_fit few_at size_of row_vertices
     borders_fit_is =
-        each_all (few_at sizes) parts
-        ∙ all_counted (few_at sizes) (λ p. leb (length (borders m p)) most_borders) 0 parts
+        all_counted (few_at sizes) (λ p. leb (length (borders m p)) most_borders) 0 parts
         (λ p low h. let hp : p < part_count m = omega (arith, given.shows.count) in ap (λ (n : ℕ). leb n most_borders) (sized.size p hp) ∙ by p hp (is_leaf m p) refl)
         ∙ ap (λ (n : ℕ). all (λ p. leb (length (borders m p)) most_borders) (up_to n)) (sym given.shows.count)
       where

@@ -3,9 +3,8 @@
 
 ghost use Rattle.std.specs.Prelude.{◌≡◌, ℕ, ◌<◌, ◌≤◌, length};
 ghost use Rattle.words.specs.Limits.{most_vertices, most_parts};
-ghost use Rattle.words.specs.Lists.{word};
+ghost use Rattle.words.specs.Lists.{up_to, word, all};
 ghost use Rattle.roads.specs.Map.{Map};
-ghost use Rattle.map_bytes.specs.Each.{each_from};
 ghost use Rattle.map_borders.specs.Lift.{most_steps, meet, lifted, Lifted};
 ghost use Rattle.map_borders.specs.Mark.{Marked, BordersCounted, few_at};
 ghost use Rattle.map_borders.specs.Sizes.{Given, Lifts, Sizes};
@@ -102,8 +101,10 @@ impl Measures {
     // None of the parts has more than 128 rows.
     pub fn fit(&self, parts: u32) -> bool
         requires { parts ≤ most_parts }
-        ensures { result ≡ each_from (few_at self.now.sizes) 0 parts }
+        ensures { result ≡ all (few_at self.now.sizes) (up_to parts) }
     {
-        (0..parts).all(|p| self.sizes[p as usize] <= Part::MOST_BORDERS)
+        self.sizes[..parts as usize]
+            .iter()
+            .all(|size| *size <= Part::MOST_BORDERS)
     }
 }

@@ -1,3 +1,2 @@
--- What a loop has left to test, and numbers copied from a record's body.
-pub mod Each
+-- Numbers copied from a record's body.
 pub mod Copied

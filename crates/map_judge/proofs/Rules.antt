@@ -7,7 +7,7 @@ use Prim.Native.Nat.{ℕ, ◌<◌, ◌≤◌}
 use lib.ListN.{length}
 use borrow.Author.Tests.{leb-true}
 use Rattle.words.specs.Limits.{most_vertices, most_parts, most_borders}
-use Rattle.words.specs.Lists.{up_to, word}
+use Rattle.words.specs.Lists.{up_to, word, all}
 use Rattle.words.specs.Tests.{◌unless◌then◌}
 use Rattle.words.proofs.Lists.{up_to_has, all_at}
 use Rattle.roads.specs.Map.{Map, road_count}
@@ -15,8 +15,6 @@ use Rattle.maps.specs.Bytes.{is_record, counts_of, length1, roads_of, decode}
 use Rattle.maps.specs.Rules.{counts_fit, parts_fit, roads_fit, borders_fit}
 use Rattle.maps.specs.Judge.{rest_fits, rule_refusal, map_refusal, verdict, judge}
 use Rattle.maps.proofs.Judged.{roads_length}
-use Rattle.map_bytes.specs.Each.{each_from}
-use Rattle.map_bytes.proofs.Each.{each_all}
 use Rattle.map_roads.specs.Road.{road_test}
 use Rattle.map_roads.proofs.Roads.{roads_fit_is}
 use Rattle.map_parts.specs.Part.{ShowsPartsOf}
@@ -37,9 +35,9 @@ unfolding rule_refusal
 rules_by m p q r = sym (λ i. due (verdict (3 unless p i then 4 unless q i then 3 unless r i then 0) m))
 
 pub roads_known : (m : Map) (body : List ℕ) (n count : ℕ) {fit known : Bool} → m.vertices ≡ count → m.roads ≡ roads_of n body
-    → fit ≡ each_from (road_test body count) 0 n → fit ≡ known → roads_fit m ≡ known
+    → fit ≡ all (road_test body count) (up_to n) → fit ≡ known → roads_fit m ≡ known
 roads_known m body n count vertices roads is e =
-    sym (is ∙ ap (λ (v : ℕ). each_from (road_test body v) 0 n) (sym vertices) ∙ roads_fit_is m body n roads) ∙ e
+    sym (is ∙ ap (λ (v : ℕ). all (road_test body v) (up_to n)) (sym vertices) ∙ roads_fit_is m body n roads) ∙ e
 
 pub given_of : {m : Map} {parents leaves : List ℕ} (body : List ℕ) (v r p : ℕ) → v ≤ most_vertices → p ≤ most_parts → ShowsPartsOf m parents leaves v p → m.roads ≡ roads_of r body
     → parts_fit m ≡ true → roads_fit m ≡ true → Given m parents leaves body v r p
@@ -47,13 +45,13 @@ given_of body v r p few_vertices few_parts shows roads good_parts good_roads =
     record { shows = shows; road_list = roads; few_vertices = few_vertices; few_parts = few_parts; good_parts = good_parts; good_roads = good_roads }
 
 pub borders_known : {m : Map} {parents leaves body : List ℕ} {v r p : ℕ} (given : Given m parents leaves body v r p) (sizes : List ℕ) {fit yes : Bool} → Sizes m sizes
-    → fit ≡ each_from (few_at sizes) 0 p → fit ≡ yes → borders_fit m ≡ yes
+    → fit ≡ all (few_at sizes) (up_to p) → fit ≡ yes → borders_fit m ≡ yes
 borders_known given sizes sized is e = sym (is ∙ borders_fit_is given (known given) sizes sized) ∙ e
 
 -- each part has at most 128 rows
-pub each_few : (sizes : List ℕ) (n : ℕ) {fit : Bool} → fit ≡ each_from (few_at sizes) 0 n → fit ≡ true → (p : ℕ) → p < n → word sizes p ≤ most_borders
+pub each_few : (sizes : List ℕ) (n : ℕ) {fit : Bool} → fit ≡ all (few_at sizes) (up_to n) → fit ≡ true → (p : ℕ) → p < n → word sizes p ≤ most_borders
 unfolding few_at
-each_few sizes n is e p h = leb-true (word sizes p) most_borders (all_at (few_at sizes) (up_to n) (sym (is ∙ each_all (few_at sizes) n) ∙ e) p (up_to_has n p h))
+each_few sizes n is e p h = leb-true (word sizes p) most_borders (all_at (few_at sizes) (up_to n) (sym is ∙ e) p (up_to_has n p h))
 
 -- the counts and the need of a map that keeps the rules
 pub sound_by : (m : Map) (v r p : ℕ) {words : ℕ} {parents leaves : List ℕ} (body sizes : List ℕ) → ShowsPartsOf m parents leaves v p → m.roads ≡ roads_of r body → Sizes m sizes

@@ -16,8 +16,6 @@ use Rattle.words.proofs.Tested.{all_both, all_counted}
 use Rattle.roads.specs.Map.{Map}
 use Rattle.parts.specs.Tree.{parent_of, leaf_of, climb, upward, level, children, is_leaf, vertices_of}
 use Rattle.maps.specs.Rules.{root_fits, parent_fits, family_fits, level_fits, stands_in_leaf, parts_fit}
-use Rattle.map_bytes.specs.Each.{each_from}
-use Rattle.map_bytes.proofs.Each.{each_all}
 use Rattle.map_parts.specs.Part.{ShowsPartsOf, fallen, family, near, part_test, standing}
 use Rattle.map_parts.specs.Tally.{tallied, Tallied}
 
@@ -26,8 +24,8 @@ unfolding fallen
 fallen_lower parents p f e = ltb-true _ p (sym (ap (λ (root : Bool). root || ltb (word parents p) p) e) ∙ f)
 
 -- a test of the loops that agrees with one of the rules below n
-each_is : (test rule : ℕ → Bool) (n : ℕ) → ((i : ℕ) → i < n → test i ≡ rule i) → each_from test 0 n ≡ all rule (up_to n)
-each_is test rule n same = each_all test n ∙ all_counted test rule 0 n (λ i low h. let hi : i < n = omega arith in same i hi)
+each_is : (test rule : ℕ → Bool) (n : ℕ) → ((i : ℕ) → i < n → test i ≡ rule i) → all test (up_to n) ≡ all rule (up_to n)
+each_is test rule n same = all_counted test rule 0 n (λ i low h. let hi : i < n = omega arith in same i hi)
 
 module _ (m : Map) (parents leaves : List ℕ) (vertices parts : ℕ) (shows : ShowsPartsOf m parents leaves vertices parts) where
   -- how many vertices stand in part p
@@ -77,7 +75,7 @@ module _ (m : Map) (parents leaves : List ℕ) (vertices parts : ℕ) (shows : S
   root_is some e = sym (ap (λ (p : ℕ). eqb p NONE) (shows.parent 0 some) ∙ e)
 
   -- each part's parent
-  parents_are : each_from (fallen parents) 0 parts ≡ all (parent_fits m) (up_to parts)
+  parents_are : all (fallen parents) (up_to parts) ≡ all (parent_fits m) (up_to parts)
   unfolding fallen parent_fits
   parents_are = each_is (fallen parents) (parent_fits m) parts (λ p h. ap (λ (q : ℕ). eqb p 0 || ltb q p) (sym (shows.parent p h)))
 
@@ -85,13 +83,13 @@ module _ (m : Map) (parents leaves : List ℕ) (vertices parts : ℕ) (shows : S
   no_root some e = parts_by (root_is some e) refl refl refl refl
 
   module _ (childCounts homeCounts : List ℕ) (counted : Tallied parents parts childCounts) (housed : Tallied leaves vertices homeCounts) (few : parts ≤ most_parts) where
-    pub parts_fit_is : {tree stand : Bool} → 1 ≤ parts → eqb (word parents 0) NONE ≡ true → tree ≡ each_from (part_test parents childCounts homeCounts) 0 parts
-        → stand ≡ each_from (standing leaves childCounts parts) 0 vertices
+    pub parts_fit_is : {tree stand : Bool} → 1 ≤ parts → eqb (word parents 0) NONE ≡ true → tree ≡ all (part_test parents childCounts homeCounts) (up_to parts)
+        → stand ≡ all (standing leaves childCounts parts) (up_to vertices)
         → (tree && stand) ≡ parts_fit m
     unfolding part_test family family_fits is_leaf level_fits level upward standing stands_in_leaf
     parts_fit_is {stand = stand} some root isTree isStand =
-        ap (λ (b : Bool). b && stand) (isTree ∙ each_all (part_test parents childCounts homeCounts) parts ∙ sym apart ∙ high (all (fallen parents) (up_to parts)) refl)
-        ∙ parts_by (root_is some root) (sym (each_all (fallen parents) parts) ∙ parents_are) (all_counted fit (family_fits m) 0 parts (λ p low h. family_is p (omega arith))) refl
+        ap (λ (b : Bool). b && stand) (isTree ∙ sym apart ∙ high (all (fallen parents) (up_to parts)) refl)
+        ∙ parts_by (root_is some root) parents_are (all_counted fit (family_fits m) 0 parts (λ p low h. family_is p (omega arith))) refl
         (isStand ∙ each_is (standing leaves childCounts parts) (stands_in_leaf m) vertices stands_is)
       where
         fit : ℕ → Bool

@@ -3,10 +3,9 @@
 
 ghost use Rattle.std.specs.Prelude.{◌≡◌, ℕ, ◌<◌, ◌≤◌, length};
 ghost use Rattle.words.specs.Limits.{most_parts};
-ghost use Rattle.words.specs.Lists.{word};
+ghost use Rattle.words.specs.Lists.{up_to, word, all};
 ghost use Rattle.roads.specs.Map.{Map};
 ghost use Rattle.maps.specs.Rules.{parts_fit};
-ghost use Rattle.map_bytes.specs.Each.{each_from};
 ghost use Rattle.map_parts.specs.Part.{fallen, family, near, part_test, standing, ShowsPartsOf};
 ghost use Rattle.map_parts.specs.Tally.{bumped, Tallied};
 
@@ -111,7 +110,7 @@ impl<'a> ShownMap<'a> {
 
     // Each part keeps its rules.
     fn tree_fits(&self, children: &[u32; 512], homes: &[u32; 512]) -> bool
-        ensures { result ≡ each_from (part_test self.now.parents children.now homes.now) 0 self.now.counts.parts }
+        ensures { result ≡ all (part_test self.now.parents children.now homes.now) (up_to self.now.counts.parts) }
     {
         (0..self.counts.parts).all(|p| self.part_fits(children, homes, p))
     }
@@ -126,7 +125,7 @@ impl<'a> ShownMap<'a> {
     }
 
     fn vertices_stand(&self, children: &[u32; 512]) -> bool
-        ensures { result ≡ each_from (standing self.now.leaves children.now self.now.counts.parts) 0 self.now.counts.vertices }
+        ensures { result ≡ all (standing self.now.leaves children.now self.now.counts.parts) (up_to self.now.counts.vertices) }
     {
         (0..self.counts.vertices).all(|v| self.stands(children, v))
     }
@@ -139,6 +138,7 @@ impl<'a> ShownMap<'a> {
         if self.parent(0) != Part::NONE {
             return false;
         }
+        // Two arrays, not one of `Part`: one `tally` counts either.
         let children = tally(&self.parents[..self.counts.parts as usize]);
         let homes = tally(&self.leaves[..self.counts.vertices as usize]);
         self.tree_fits(&children, &homes) && self.vertices_stand(&children)

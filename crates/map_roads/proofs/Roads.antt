@@ -13,8 +13,6 @@ use Rattle.roads.specs.Map.{Road, Map, road_at, no_road}
 use Rattle.maps.specs.Bytes.{field, road_shown, roads_of}
 use Rattle.maps.specs.Rules.{road_fits, road_before, rises, roads_fit}
 use Rattle.maps.proofs.Judged.{roads_length, road_is}
-use Rattle.map_bytes.specs.Each.{each_from}
-use Rattle.map_bytes.proofs.Each.{each_all}
 use Rattle.map_roads.specs.Road.{road, road_test}
 
 -- a road by its fields
@@ -33,11 +31,10 @@ road_test_by body vertices i {good = good} {next = next} isThis isFit isGood isF
     let follows : next ≡ road_before (road_shown body (i - 1)) (road_shown body i) = isNext ∙ ap₂ road_before is_last isThis in
     λ j. fits j && (sym isFirst j || follows j)
 
-pub roads_fit_is : (m : Map) (body : List ℕ) (n : ℕ) → m.roads ≡ roads_of n body → each_from (road_test body m.vertices) 0 n ≡ roads_fit m
+pub roads_fit_is : (m : Map) (body : List ℕ) (n : ℕ) → m.roads ≡ roads_of n body → all (road_test body m.vertices) (up_to n) ≡ roads_fit m
 unfolding roads_fit road_test rises roads_of
 roads_fit_is m body n shown =
-    each_all (road_test body m.vertices) n
-    ∙ sym (all_both (λ i. road_fits m.vertices (road_shown body i)) order (up_to n))
+    sym (all_both (λ i. road_fits m.vertices (road_shown body i)) order (up_to n))
     ∙ sym (ap₂ ◌&&◌ (ap (all (road_fits m.vertices)) shown ∙ all_map (road_fits m.vertices) (road_shown body) (up_to n))
     (ap (λ (k : ℕ). all (rises m) (up_to k)) (ap length shown ∙ roads_length n body) ∙ all_counted (rises m) order 0 n (λ i low h. let hi : i < n = omega arith in same i hi)))
   where

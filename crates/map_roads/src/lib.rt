@@ -4,7 +4,7 @@
 ghost use Rattle.std.specs.Prelude.{◌≡◌};
 ghost use Rattle.maps.specs.Bytes.{road_shown};
 ghost use Rattle.maps.specs.Rules.{road_fits, road_before};
-ghost use Rattle.map_bytes.specs.Each.{each_from};
+ghost use Rattle.words.specs.Lists.{up_to, all};
 ghost use Rattle.map_roads.specs.Road.{road, road_test};
 
 use map_bytes::{number2, number4};
@@ -63,7 +63,7 @@ fn road_fits(body: &[u8], vertices: u32, i: u32) -> bool
 
 // Each of the `roads` roads that the body of record 4 shows keeps the rules.
 pub fn roads_fit(body: &[u8], vertices: u32, roads: u32) -> bool
-    ensures { result ≡ each_from (road_test body.now vertices) 0 roads }
+    ensures { result ≡ all (road_test body.now vertices) (up_to roads) }
 {
     (0..roads).all(|i| road_fits(body, vertices, i))
 }

@@ -1,11 +1,14 @@
 -- `fit` tests each part.
 -- Assumes nothing.
-use mathlib.Core.Path.{refl}
+use native.Mathlib.Omega.{arith}
+use Prim.Native.Nat.{ℕ}
+use lib.Dec.{leb}
 use Rattle.std.proofs.Common.{rules, tests}
-use Rattle.map_bytes.proofs.Each.{all_is}
+use Rattle.words.specs.Limits.{most_borders}
+use Rattle.map_bytes.proofs.Each.{all_in}
 use Rattle.map_borders.specs.Mark.{few_at}
 use Rattle.map_borders.proofs.Measures.fit.Goals as goal
 
 pub returns : goal.returns
 unfolding few_at
-returns c = all_is (few_at c.args.self.now.sizes) c.args.parts c.all.ensures.ran refl (λ x b q k. search (rules, tests))
+returns c = all_in (λ (size : ℕ). leb size most_borders) c.args.self.now.sizes c.args.parts (omega arith) c.all.ensures.ran c.iter.ensures.rest (λ x b q k. search (rules, tests))
