@@ -2,9 +2,8 @@
 // that it is a border of. So each part's rows come in rising order, and the row in the child is written just before the row in its parent.
 #![tactic(auto)]
 
-ghost use Rattle.std.specs.Prelude.{◌≡◌, ℕ, suc, ◌+◌, ◌*◌, ◌<◌, ◌≤◌, true, List};
-ghost use Rattle.words.specs.Limits.{most_vertices, most_parts};
-ghost use Rattle.layout.specs.Layout.{child_in_row, vertices_from};
+ghost use Rattle.std.specs.Prelude.{◌≡◌, ℕ, suc, ◌+◌, ◌*◌, ◌<◌, true, List};
+ghost use Rattle.layout.specs.Layout.{child_in_row};
 ghost use Rattle.roads.specs.Map.{Map};
 ghost use Rattle.opening_rows.specs.Rows.{RowWritten, Standing, RowsReady, RowsStand, RowsDone, FirstRows};
 
