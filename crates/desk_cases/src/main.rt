@@ -3,143 +3,96 @@
 // prints for the same inputs must come out.
 #![tactic(auto)]
 
-ghost use Rattle.std.specs.Prelude.{◌<◌, ◌≤◌, IfOk, length};
+ghost use Rattle.std.specs.Prelude.{◌≤◌, IfOk, IfSome, length};
 
-use cells::{wide, word};
 use desk_steps::{begin, turn};
-use packs::{item_at, read_file};
+use packs::{read_file, split_item};
 use std::io;
 use std::rt::Files;
-
-// How far an input is looked at, and whether its last line is written.
-#[derive(Clone, Copy)]
-struct State {
-    at: usize,
-    over: bool,
-}
-
-fn write_lines(rt: &impl Print, out: &[u8], end: usize) -> io::Result<()>
-    requires { end ≤ length out.now }
-{
-    rt.write_all(&out[..end])
-}
-
-fn write_row(rt: &impl Print, vertex: u32, distance: u32) -> io::Result<()> {
-    print!(rt; " {vertex}:{distance}")
-}
 
 // All rows: from the first row of the root to the end of the words used, four words each.
 fn write_rows(rt: &impl Print, memory: &[u32; 16384], place: u32) -> io::Result<()> {
     print!(rt; "{place} rows")?;
-    let used = wide(word(memory, 1));
-    let mut at = wide(word(memory, 66));
-    while at < 16384 {
-        if at < used {
-            write_row(rt, word(memory, at), word(memory, at + 1))?;
-        }
-        at += 4;
+    let rows = memory.get(memory[66] as usize..memory[1] as usize);
+    for [vertex, distance, ..] in rows.unwrap_or(&[]).as_chunks::<4>().0 {
+        print!(rt; " {vertex}:{distance}")?;
     }
     println!(rt; "")
 }
 
-// The record for `place`. An accepted change is counted in the sixth word. An error is one of writing; the memory is as the call left it.
+// The first record, which is for `place`: how many bytes it takes, and None where the last line is written. An accepted change is counted in the sixth
+// word. An error is one of writing; the memory is as the call left it.
 fn step(
     rt: &impl Print,
     memory: &mut [u32; 16384],
     input: &[u8],
-    at: usize,
     place: u32,
     rows: bool,
-) -> io::Result<State>
-    requires { (at ≤ length input.now) × (1 ≤ place) }
-    ensures { IfOk result (λ state. state.at ≤ length input.now) }
+) -> io::Result<Option<usize>>
+    requires { 1 ≤ place }
+    ensures { IfOk result (λ taken. IfSome taken (λ n. n ≤ length input.now)) }
 {
     let mut answer = [0u32; 96];
     let mut out = [0u8; 2048];
-    let changes = word(memory, 5);
-    let next = turn(&input[at..], memory, &mut answer, &mut out, 0, place);
-    write_lines(rt, &out, next.end)?;
-    if rows {
-        if word(memory, 5) != changes {
-            write_rows(rt, memory, place)?;
-        }
+    let changes = memory[5];
+    let next = turn(input, memory, &mut answer, &mut out, 0, place);
+    rt.write_all(&out[..next.end])?;
+    if rows && memory[5] != changes {
+        write_rows(rt, memory, place)?;
     }
-    Ok(State {
-        at: at + next.taken,
-        over: next.over,
-    })
+    Ok(next.taken)
 }
 
 // The calls, after an accepted opening.
-fn calls(
-    rt: &impl Print,
-    memory: &mut [u32; 16384],
-    input: &[u8],
-    start: usize,
-    rows: bool,
-) -> io::Result<()>
-    requires { start ≤ length input.now }
-{
-    let mut at = start;
+fn calls(rt: &impl Print, memory: &mut [u32; 16384], input: &[u8], rows: bool) -> io::Result<()> {
+    let mut rest = input;
     for place in 1..=1000001 {
-        let next = step(rt, memory, input, at, place, rows)?;
-        if next.over {
+        let Some(taken) = step(rt, memory, rest, place, rows)? else {
             return Ok(());
-        }
-        at = next.at;
+        };
+        rest = &rest[taken..];
     }
     Ok(())
 }
 
+// `rows` is a flag: a closure would have to hold the printer and the memory that each step changes, for a line that one group has.
 fn run_input(rt: &impl Print, input: &[u8], rows: bool) -> io::Result<()> {
     let mut memory = [0u32; 16384];
     let mut out = [0u8; 2048];
     let opened = begin(input, &mut memory, &mut out);
-    write_lines(rt, &out, opened.end)?;
-    if opened.over {
+    rt.write_all(&out[..opened.end])?;
+    let Some(taken) = opened.taken else {
         return Ok(());
-    }
+    };
     if rows {
         write_rows(rt, &memory, 0)?;
     }
-    calls(rt, &mut memory, input, opened.taken, rows)
+    calls(rt, &mut memory, &input[taken..], rows)
 }
 
-// Runs the input at `at`, and gives the place after it.
-fn run_entry(rt: &impl Print, pack: &[u8], at: usize, rows: bool) -> io::Result<usize>
-    requires { at < length pack.now }
-    ensures { IfOk result (λ after. (at < after) × (after ≤ length pack.now)) }
-{
-    let item = item_at(pack, at);
-    let start = item.start;
-    let end = item.end;
-    if item.whole {
-        run_input(rt, &pack[start..end], rows)?;
-    } else {
-        println!(rt; "cut")?;
-    }
-    Ok(end)
-}
-
-fn run_pack(rt: &impl Print, group: &[u8], pack: &[u8], rows: bool) -> io::Result<()> {
-    let mut at = 0;
+fn run_pack(rt: &impl Print, group: &str, pack: &[u8], rows: bool) -> io::Result<()> {
+    let mut rest = pack;
     let mut index: u64 = 0;
-    while at < pack.len() {
-        rt.write_all(group)?;
-        println!(rt; " {index}")?;
-        at = run_entry(rt, pack, at, rows)?;
+    while let Some((input, after)) = split_item(rest) {
+        println!(rt; "{group} {index}")?;
+        run_input(rt, input, rows)?;
+        rest = after;
         index += 1;
+    }
+    if !rest.is_empty() {
+        println!(rt; "{group} {index}")?;
+        println!(rt; "cut")?;
     }
     Ok(())
 }
 
-fn run_file(rt: &(impl Files + Print), group: &[u8], path: &[u8], rows: bool) -> io::Result<()> {
+fn run_file(rt: &(impl Files + Print), group: &str, path: &str, rows: bool) -> io::Result<()> {
     let mut pack = [0u8; 262144];
-    let n = read_file(rt, path, &mut pack)?;
+    let n = read_file(rt, path.as_bytes(), &mut pack)?;
     run_pack(rt, group, &pack[..n], rows)
 }
 
 fn main(rt: HostRuntime) -> io::Result<()> {
-    run_file(&rt, b"stored", b"stored.pack", false)?;
-    run_file(&rt, b"rows", b"rows.pack", true)
+    run_file(&rt, "stored", "stored.pack", false)?;
+    run_file(&rt, "rows", "rows.pack", true)
 }

@@ -12,7 +12,10 @@ use std::rt::Files;
 fn write_judgement(rt: &impl Print, judged: Result<Sound, Refusal>) -> io::Result<()> {
     match judged {
         Ok(Sound { counts, need }) => {
-            println!(rt; " sound {} {} {} {need}", counts.vertices, counts.roads, counts.parts)
+            println!(rt;
+                " sound {} {} {} {need}",
+                counts.vertices, counts.roads, counts.parts
+            )
         }
         Err(refusal) => println!(rt; " refused {}", refusal.number()),
     }
