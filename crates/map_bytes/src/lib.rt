@@ -24,10 +24,7 @@ pub fn number2(bytes: &[u8], at: usize) -> u32
     ensures { (result ≡ field bytes.now at 2) × (result < 65536) }
 {
     let rest = rest(bytes, at);
-    match rest.first_chunk() {
-        Some(whole) => u16::from_le_bytes(*whole) as u32,
-        None => byte(rest, 0) as u32,
-    }
+    u16::from_le_bytes([byte(rest, 0), byte(rest, 1)]) as u32
 }
 
 // The number of 4 bytes at `at`.
@@ -35,10 +32,7 @@ pub fn number4(bytes: &[u8], at: usize) -> u32
     ensures { result ≡ field bytes.now at 4 }
 {
     let rest = rest(bytes, at);
-    match rest.first_chunk() {
-        Some(whole) => u32::from_le_bytes(*whole),
-        None => u32::from_le_bytes([byte(rest, 0), byte(rest, 1), byte(rest, 2), 0]),
-    }
+    u32::from_le_bytes([byte(rest, 0), byte(rest, 1), byte(rest, 2), byte(rest, 3)])
 }
 
 // The record at `at` has this kind and this length, and is not cut.
