@@ -15,6 +15,7 @@ pub fn open(map: &[u8], memory: &mut [u32], start: u32) -> Reply
 {
     let found = judge_map(map)?;
     let need = found.need as usize;
+    // Not `get_mut`: what is written through what it lends isn't known afterwards.
     if memory.len() < need {
         return Err(Refusal::TooFewWords);
     }
