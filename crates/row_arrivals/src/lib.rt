@@ -54,6 +54,7 @@ fn spread_line(mem: &mut [u32], part: PartRows, line: usize, seen: Row)
     requires line { line + part.size ≤ length mem.old }
     ensures { mem.new ≡ spread part.size mem.old part.first line seen.vertex seen.distance }
 {
+    // By index: rows and table stand in one memory, and forged words may let them overlap.
     for i in 0..part.size {
         let d = mem[line + i];
         offer(mem, part.row(i), seen, d);

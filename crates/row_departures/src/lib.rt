@@ -15,7 +15,7 @@ use rows::Row;
 // A key has room for every vertex below 65,536, and so for a distance to be added.
 const KEY: u64 = 65536;
 
-// The least key of what does not reach.
+// The least key of what does not reach: one more number to compare, so that the least of all keys needs no jump.
 const FAR_KEY: u64 = Row::FAR as u64 * KEY;
 
 // What stands one step further down from a row of a part, as a key; and how far into the table the row's line is.

@@ -82,7 +82,8 @@ fn refresh(mem: &mut [u32], p: u32, v: u32, arrives: bool) -> bool
     }
 }
 
-// The rows of part p and of each part above it: the number falls at each parent.
+// The rows of part p and of each part above it: the number falls at each parent. Whether v is active goes along, as a fact of the fleet: a change passed in its place
+// would have to be named in each clause.
 fn refresh_up(mem: &mut [u32], p: u32, v: u32, arrives: bool, levels: usize)
     requires { levels ≤ 16 }
     ensures { mem.new ≡ refreshed_up levels mem.old p v arrives }
