@@ -16,23 +16,28 @@ const VERTICES: u32 = 4096;
 // In `at`: a vertex that was taken. Else 0, or 1 + the vertex's place among those that wait.
 const TAKEN: u8 = 255;
 
-// The first `len` wait. Their labels stand side by side: the least is looked for at each turn, which takes a twentieth longer among labels with vertices between.
-// A vertex has one byte in `at`, since 4,096 of them are cleared for each search.
+// A vertex that waits, with its label.
+#[derive(Clone, Copy)]
+struct Waiting {
+    label: u32,
+    vertex: u32,
+}
+
+// The first `len` wait. A vertex has one byte in `at`, since 4,096 of them are cleared for each search.
 #[derive(Drop)]
 pub struct Front {
     at: [u8; 4096],
-    labels: [u32; 128],
-    vertices: [u32; 128],
+    waiting: [Waiting; 128],
     len: usize,
 }
 
 impl Model for Front {
-    ghost use Rattle.std.specs.Prelude.{◌≤◌};
+    ghost use Rattle.std.specs.Prelude.{◌≤◌, map};
     ghost use Rattle.near_vans.specs.Around.{Waits};
 
     ghost Value = { Waits };
 
-    ghost view = { λ f. record { at = f.at; labels = f.labels; vertices = f.vertices; n = f.len } };
+    ghost view = { λ f. record { at = f.at; labels = map (λ w. w.label) f.waiting; vertices = map (λ w. w.vertex) f.waiting; n = f.len } };
 
     ghost invariant = { λ f. f.len ≤ 128 };
 }
@@ -48,8 +53,10 @@ impl Front {
     {
         Front {
             at: [0; 4096],
-            labels: [0; 128],
-            vertices: [0; 128],
+            waiting: [Waiting {
+                label: 0,
+                vertex: 0,
+            }; 128],
             len: 0,
         }
     }
@@ -62,9 +69,9 @@ impl Front {
             return None;
         }
         let mut place = 0;
-        let mut low = self.labels[0];
+        let mut low = self.waiting[0].label;
         for i in 1..self.len {
-            let label = self.labels[i];
+            let label = self.waiting[i].label;
             if label < low {
                 low = label;
                 place = i;
@@ -79,22 +86,22 @@ impl Front {
         ensures { Taken i self.old self.new result }
     {
         self.len -= 1;
-        let v = self.vertices[i];
-        let moved = self.vertices[self.len];
-        self.labels[i] = self.labels[self.len];
-        self.vertices[i] = moved;
-        self.at[(moved % VERTICES) as usize] = (i + 1) as u8;
+        let v = self.waiting[i].vertex;
+        let moved = self.waiting[self.len];
+        self.waiting[i] = moved;
+        self.at[(moved.vertex % VERTICES) as usize] = (i + 1) as u8;
         self.at[(v % VERTICES) as usize] = TAKEN;
         v
     }
 
     // The place at which vertex u waits.
+    #[tactic(auto, using(crate::proofs::Places::vertex_at))]
     fn place_of(&self, u: usize) -> Option<usize>
         requires { u < 4096 }
         ensures { HasPlace u self.now result }
     {
         let i = usize::from(self.at[u]).checked_sub(1)?;
-        if i < self.len && self.vertices[i] as usize == u {
+        if i < self.len && self.waiting[i].vertex as usize == u {
             Some(i)
         } else {
             None
@@ -110,16 +117,18 @@ impl Front {
             return Some(());
         }
         if let Some(i) = self.place_of(u) {
-            if far < self.labels[i] {
-                self.labels[i] = far;
+            if far < self.waiting[i].label {
+                self.waiting[i].label = far;
             }
             return Some(());
         }
         if self.len == ROOM {
             return None;
         }
-        self.labels[self.len] = far;
-        self.vertices[self.len] = u as u32;
+        self.waiting[self.len] = Waiting {
+            label: far,
+            vertex: u as u32,
+        };
         self.len += 1;
         self.at[u] = self.len as u8;
         Some(())
