@@ -10,6 +10,7 @@ use cells::{lower, wide, word};
 use far_sums::FAR;
 
 // The keys of all parts, FAR where one has none yet, and the parts that wait: the first n of `waits`. A part joins them when it gets its first key.
+#[derive(Drop)]
 pub struct PartsWaiting {
     pub keys: [u32; 512],
     pub waits: [u32; 512],

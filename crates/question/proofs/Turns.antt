@@ -33,15 +33,19 @@ use Rattle.layout.specs.Layout.{rows_in_part, table_in_part, part_word}
 use Rattle.part_words.specs.Part.{rows_in}
 use Rattle.row_lists.specs.Rows.{child_at, below_at, near_at}
 use Rattle.part_keys.specs.Keys.{key_of, Spread}
-use Rattle.row_distances.specs.Distances.{out_of, Closer}
+use Rattle.row_distances.specs.Distances.{out_of, Closer, Relaxed}
 use Rattle.cells.specs.Lowered.{lowered}
-use Rattle.part_bounds.specs.Bounds.{OpenedUp, GivenRow}
+use Rattle.part_bounds.specs.Bounds.{GivenRow}
 use Rattle.far_sums.proofs.Lowering.{lowered_no_more, lowered_here, lowered_found, lowered_length}
 use Rattle.van_offers.specs.Genuine.{Genuine}
 use Rattle.question.specs.Kept.{BoundOutside, Coming, Covered, Waits, SearchingParts}
 use Rattle.question.proofs.Shown.{parent_read, rows_read, owner_read, child_at_read, below_read, place_read, row_in_lem, child_of_border, row_below_lem}
 use Rattle.question.proofs.Exact.{still_honest, exact_in, known_in}
 use Rattle.question.proofs.Asked.{asked_is_row, asked_every, part_exact, part_known}
+
+-- `OpenedUp`, over the words of the keys and of the parts that wait
+abbrev pub Opens : List ℕ → ℕ → Bool → List ℕ → List ℕ → List ℕ → ℕ → List ℕ → List ℕ → List ℕ → ℕ → Type 0
+Opens mem p all dx keys waits n dx' keys' waits' n' = Relaxed mem p all dx dx' × Spread mem (part_word mem p rows_in_part) dx' (GivenRow all mem (part_word mem p rows_in_part) (rows_in mem p) dx) keys waits n keys' waits' n'
 
 -- A part is given up: the last of those that wait takes its place.
 module _ (waits : List ℕ) (at n : ℕ) (h : at < n) (fits : n ≤ length waits) where
@@ -328,7 +332,7 @@ module _ {m : Map} {s : State} {mem : List ℕ} (g : Genuine m s mem) (x : ℕ) 
   -- A waiting part with children is taken.
   module _ {k : ℕ} {dx keys marks waits : List ℕ} {part out n : ℕ} {found : List Listed} (st : SearchingParts m s x k dx keys marks waits part out n found) where
     module _ (at : ℕ) (h : at < n) (fits : n ≤ length waits) {dx' keys' waits' : List ℕ} {n' : ℕ} (inner : is_leaf m (word waits at) ≡ false)
-        (opened : OpenedUp mem (word waits at) false dx keys (fewer waits at n h fits) (n - 1) dx' keys' waits' n') where
+        (opened : Opens mem (word waits at) false dx keys (fewer waits at n h fits) (n - 1) dx' keys' waits' n') where
       q : ℕ
       q = word waits at
 
@@ -420,7 +424,7 @@ module _ {m : Map} {s : State} {mem : List ℕ} (g : Genuine m s mem) (x : ℕ) 
 
     -- The search climbs to the part above.
     module _ (above : ℕ) (is-above : above ≡ parent_of m part) (real : part ≢ 0) {dx' keys' waits' : List ℕ} {n' out' : ℕ}
-        (opened : OpenedUp mem above true dx (lowered keys part 0) waits n dx' keys' waits' n') (bound : BoundOutside mem above dx' out') where
+        (opened : Opens mem above true dx (lowered keys part 0) waits n dx' keys' waits' n') (bound : BoundOutside mem above dx' out') where
       falls : above < part
       falls = omega (arith, is-above, (g.sound.part part st.is_part).parent (omega (arith, real)))
 

@@ -7,15 +7,17 @@ use native.Mathlib.Numerals.{add-one}
 use native.Mathlib.Omega.{arith}
 use lib.ListN.{length, get_or, set, take, drop, length-set, length-take, length-drop}
 use lib.Seq.{take-suc, take_all, drop-drop}
+use Rattle.std.proofs.lemmas.List.{length-map, get_or-map}
 use Rattle.words.specs.Lists.{word, gather}
 use Rattle.words.proofs.Lists.{sum_same, gather_length}
 use Rattle.fleet.specs.Question.{Listed, listed_words}
 use Rattle.places.specs.Place.{counts_in}
 use Rattle.counts.specs.declared.Counts.{Counts}
-use Rattle.best_list.specs.Best.{listed, entries}
-use Rattle.best_list.proofs.Pass.{length_entries, entries_at}
+use Rattle.best_list.specs.Best.{Best, listed, listing, entries}
+use Rattle.best_list.specs.declared.Offer.{Offer}
 use Rattle.van_offers.specs.Offers.{stamp_in}
 use Rattle.places.specs.Place.{van_address}
+use Rattle.van_offers.specs.Genuine.{list_in}
 use Rattle.question.specs.Kept.{list_written}
 
 -- three words written behind others
@@ -97,23 +99,29 @@ writing_all {list} {before} {i} {now} w all =
     let same : i ≡ length list = omega (arith, w.within) in
     w.so_far ∙ ap₂ (λ (xs : List Listed) (n : ℕ). gather listed_words xs ++ drop (3 * n) before) (take_all i list all) same
 
--- Entries of two arrays.
-module _ (mem : List ℕ) (counts : Counts) (fars vans : List ℕ) (len : ℕ) (few : len ≤ 32) (fars-long : length fars ≡ 32) (vans-long : length vans ≡ 32) (before : List ℕ) where
-  list_length : length (entries (stamp_in mem counts) fars vans len) ≡ len
-  list_length = length_entries (stamp_in mem counts) fars vans len (omega arith) (omega arith)
+-- The offers of a list, as its entries.
+module _ (mem : List ℕ) (counts : Counts) (best : Best) (before : List ℕ) where
+  abbrev list : List Listed
+  list = entries (stamp_in mem counts) best
 
-  pub write_none : 3 * len ≤ length before → Writing (entries (stamp_in mem counts) fars vans len) before 0 before
-  write_none fits = writing_none (entries (stamp_in mem counts) fars vans len) before (omega (arith, list_length))
+  list_length : length list ≡ length best.offers
+  list_length = length-map best.offers (listing (stamp_in mem counts))
 
-  pub write_more : (i : ℕ) {now now' : List ℕ} {stamp : ℕ} → Writing (entries (stamp_in mem counts) fars vans len) before i now → i < len → stamp ≡ word mem (van_address counts (get_or vans i 0) + 3)
-      → now' ≡ set (set (set now (3 * i) (get_or vans i 0)) (3 * i + 1) (get_or fars i 0)) (3 * i + 2) stamp → Writing (entries (stamp_in mem counts) fars vans len) before (i + 1) now'
-  write_more i {now} {now'} {stamp} w h isStamp isNow =
-      writing_more w (omega (arith, list_length)) {e = listed (stamp_in mem counts) (get_or fars i 0) (get_or vans i 0)} refl
-      (entries_at (stamp_in mem counts) fars vans len i (listed (λ v. 0) 0 0) h (omega arith) (omega arith))
-      (isNow ∙ ap (λ (s : ℕ). set (set (set now (3 * i) (get_or vans i 0)) (3 * i + 1) (get_or fars i 0)) (3 * i + 2) s) isStamp)
+  pub write_none : 3 * length best.offers ≤ length before → Writing list before 0 before
+  write_none fits = writing_none list before (omega (arith, list_length))
+
+  abbrev at_place : List Offer → ℕ → Offer
+  at_place items i = get_or items i (record { far = 0; van = 0 })
+
+  pub write_more : (i : ℕ) (items : List Offer) {now now' : List ℕ} {stamp : ℕ} → items ≡ best.offers → Writing list before i now → i < length items → stamp ≡ word mem (van_address counts (at_place items i).van + 3)
+      → now' ≡ set (set (set now (3 * i) (at_place items i).van) (3 * i + 1) (at_place items i).far) (3 * i + 2) stamp → Writing list before (i + 1) now'
+  write_more i items {now} {now'} {stamp} same w h isStamp isNow =
+      let here : i < length best.offers = omega (arith, h, ap length same) in
+      writing_more w (omega (arith, list_length)) {e = listing (stamp_in mem counts) (at_place items i)} refl
+      (get_or-map (listing (stamp_in mem counts)) best.offers i (record { far = 0; van = 0 }) (listed (λ v. 0) 0 0) here ∙ ap (λ (l : List Offer). listing (stamp_in mem counts) (at_place l i)) (sym same))
+      (isNow ∙ ap (λ (s : ℕ). set (set (set now (3 * i) (at_place items i).van) (3 * i + 1) (at_place items i).far) (3 * i + 2) s) isStamp)
       (ap length isNow ∙ simp length-set)
 
-  pub write_all : (i : ℕ) {now : List ℕ} → counts ≡ counts_in mem → Writing (entries (stamp_in mem counts) fars vans len) before i now → len ≤ i
-      → now ≡ list_written (entries (stamp_in mem (counts_in mem)) fars vans len) before
+  pub write_all : (i : ℕ) {now : List ℕ} → counts ≡ counts_in mem → Writing list before i now → length best.offers ≤ i → now ≡ list_written (list_in mem best) before
   write_all i isCounts w all =
-      writing_all w (omega (arith, list_length)) ∙ ap (λ (c : Counts). list_written (entries (stamp_in mem c) fars vans len) before) isCounts
+      writing_all w (omega (arith, list_length)) ∙ ap (λ (c : Counts). list_written (entries (stamp_in mem c) best) before) isCounts

@@ -11,16 +11,15 @@ use Rattle.rows.specs.Row.{row_of}
 use Rattle.fleet.specs.State.{Slot, absent, present, State, slot_of, head_of, active}
 use Rattle.fleet.specs.Question.{Listed, listed_words, coming_from, sorted, nearest}
 use Rattle.places.specs.Place.{counts_in}
-use Rattle.best_list.specs.Best.{offered_all, InOrder}
 use Rattle.van_offers.specs.Offers.{row_offers}
-use Rattle.van_offers.specs.Genuine.{Genuine, list_of}
+use Rattle.van_offers.specs.Genuine.{Genuine, list_in}
 use Rattle.far_sums.specs.Least.{Least}
 use Rattle.layout.specs.Layout.{parent_in_part, rows_in_part, table_in_part, part_word}
 use Rattle.part_words.specs.Part.{rows_in}
-use Rattle.row_lists.specs.Rows.{Fits, own_rows, OwnRow}
-use Rattle.row_distances.specs.Distances.{Alone, Closer, Relaxed, out_of}
+use Rattle.row_lists.specs.Rows.{own_rows, OwnRow}
+use Rattle.row_distances.specs.Distances.{Closer, out_of}
 use Rattle.part_keys.specs.Keys.{far_count}
-use Rattle.question.specs.declared.Search.{Search}
+use Rattle.question.specs.declared.search.Search.{Search}
 
 -- The functions of the search, on any words.
 
@@ -32,19 +31,6 @@ LeafRelaxed mem leaf dx dx' =
 -- what the rows of a leaf that show their own vertex offer, with distances as they are
 abbrev pub offers_of : List ℕ → ℕ → List ℕ → List Listed
 offers_of mem leaf dx = row_offers mem (counts_in mem) (part_word mem leaf rows_in_part) dx (own_rows mem leaf)
-
--- a leaf was looked at
-pub record LeafTaken (mem : List ℕ) (leaf : ℕ) (dx fars vans : List ℕ) (len k : ℕ) (dx' fars' vans' : List ℕ) (len' : ℕ) : Type 0 where
-  pub few : len' ≤ k
-  pub ordered : InOrder fars' vans' len'
-  pub looks : Fits mem leaf → LeafRelaxed mem leaf dx dx' × (list_of mem fars' vans' len' ≡ offered_all k (list_of mem fars vans len) (offers_of mem leaf dx'))
-
--- the leaf of the vertex asked at, whose row is the one at `place`, was looked at
-pub record OwnTaken (mem : List ℕ) (leaf place : ℕ) (dx : List ℕ) (k : ℕ) (dx' fars' vans' : List ℕ) (len' : ℕ) : Type 0 where
-  pub few : len' ≤ k
-  pub ordered : InOrder fars' vans' len'
-  pub looks : Fits mem leaf → place < rows_in mem leaf
-      → (Alone mem (part_word mem leaf rows_in_part) (rows_in mem leaf) dx place → Relaxed mem leaf true dx dx') × (list_of mem fars' vans' len' ≡ offered_all k [] (offers_of mem leaf dx'))
 
 -- the bound of what lies outside a part
 pub record BoundOutside (mem : List ℕ) (part : ℕ) (dx : List ℕ) (out : ℕ) : Type 0 where
@@ -109,50 +95,52 @@ pub record SearchingParts (m : Map) (s : State) (x k : ℕ) (dx keys marks waits
   -- the list is the first k of the vans that head into the leaves looked at
   pub list : found ≡ take k (sorted (keep (is_looked_at m s marks) (coming_from m x 0 s.vans)))
 
+-- the same of a search's own value, in whose list one van has room
+pub record Searching (m : Map) (s : State) (x : ℕ) (mem dx : List ℕ) (st : Search) : Type 0 where
+  pub some : 1 ≤ st.best.k
+  pub marks : List ℕ
+  pub parts : SearchingParts m s x st.best.k dx st.waiting.keys marks st.waiting.waits st.part st.out st.waiting.n (list_in mem st.best)
+
 -- A turn.
 
--- how a search stands before a turn, on any words: a list in order of at most k vans, k from 1 to 32; and the parts without a key and those that wait are 512 at most
-pub record SearchStands (k : ℕ) (keys fars vans : List ℕ) (st : Search) : Type 0 where
-  pub few : st.len ≤ k
-  pub some : 1 ≤ k
-  pub most : k ≤ 32
-  pub ordered : InOrder fars vans st.len
-  pub total : far_count keys + st.waiting ≤ 512
+-- the parts without a key, those that wait, and the number of the part climbed to: together they grow less with each turn
+abbrev pub left_in : Search → ℕ
+left_in st = far_count st.waiting.keys + st.waiting.n + st.part
 
--- what a climb leaves: the list as it was; and the search goes on, where the bound of what lies outside the part is not FAR
-pub record Climbs (mem dx keys waits : List ℕ) (st : Search) (dx' keys' waits' : List ℕ) (st' : Search) : Type 0 where
-  pub same_list : st'.len ≡ st.len
-  pub total : far_count keys' + st'.waiting ≤ 512
-  pub shrinks : st'.ended ≡ false → far_count keys' + st'.waiting + st'.part < far_count keys + st.waiting + st.part
+-- there is no part above: then the bound of what lies outside is FAR
+pub record CannotClimb (mem dx : List ℕ) (st st' : Search) : Type 0 where
+  pub same_list : st'.best ≡ st.best
+  pub stays : (m : Map) (fleet : State) (x k : ℕ) (marks : List ℕ) (found : List Listed) → Genuine m fleet mem → x < m.vertices
+      → SearchingParts m fleet x k dx st.waiting.keys marks st.waiting.waits st.part st.out st.waiting.n found → FAR ≤ st.out
+
+-- what a climb leaves: the list as it was; and the search stands as it should, where the bound of what lies outside the part is not FAR
+pub record Climbs (mem dx : List ℕ) (st : Search) (dx' : List ℕ) (st' : Search) : Type 0 where
+  pub same_list : st'.best ≡ st.best
+  pub shrinks : left_in st' < left_in st
   pub climbs : (m : Map) (fleet : State) (x k : ℕ) (marks : List ℕ) (found : List Listed) → Genuine m fleet mem → x < m.vertices
-      → SearchingParts m fleet x k dx keys marks waits st.part st.out st.waiting found → st.out < FAR
-      → (st'.ended ≡ false) × SearchingParts m fleet x k dx' keys' marks waits' st'.part st'.out st'.waiting found
+      → SearchingParts m fleet x k dx st.waiting.keys marks st.waiting.waits st.part st.out st.waiting.n found → st.out < FAR
+      → SearchingParts m fleet x k dx' st'.waiting.keys marks st'.waiting.waits st'.part st'.out st'.waiting.n found
 
--- what a turn leaves on any words: the search ends, since the parts without a key, those that wait and the number of the part climbed to grow less together
-pub record Shrunk (k : ℕ) (keys : List ℕ) (st : Search) (keys' fars' vans' : List ℕ) (st' : Search) : Type 0 where
-  pub few : st'.len ≤ k
-  pub ordered : InOrder fars' vans' st'.len
-  pub total : far_count keys' + st'.waiting ≤ 512
-  pub shrinks : st'.ended ≡ false → far_count keys' + st'.waiting + st'.part < far_count keys + st.waiting + st.part
+-- what a turn leaves, where the search goes on
+pub record GoesOn (mem dx : List ℕ) (st : Search) (dx' : List ℕ) (st' : Search) : Type 0 where
+  pub same_k : st'.best.k ≡ st.best.k
+  pub shrinks : left_in st' < left_in st
+  pub on : (m : Map) (fleet : State) (x : ℕ) → Genuine m fleet mem → x < m.vertices → Searching m fleet x mem dx st → Searching m fleet x mem dx' st'
 
--- what is so between two turns: the search goes on, or the list is the answer
-abbrev pub GoesOn : (m : Map) (s : State) (x k : ℕ) (mem dx keys waits fars vans : List ℕ) (st : Search) → Type 0
-GoesOn m s x k mem dx keys waits fars vans st =
-    (st.ended ≡ false → (marks : List ℕ) × SearchingParts m s x k dx keys marks waits st.part st.out st.waiting (list_of mem fars vans st.len))
-    × (st.ended ≡ true → list_of mem fars vans st.len ≡ nearest m s x k)
+-- and where it has ended: the list is the answer
+pub record Ends (mem dx : List ℕ) (st st' : Search) : Type 0 where
+  pub same_k : st'.best.k ≡ st.best.k
+  pub ends : (m : Map) (fleet : State) (x : ℕ) → Genuine m fleet mem → x < m.vertices → Searching m fleet x mem dx st → list_in mem st'.best ≡ nearest m fleet x st.best.k
 
--- what a turn leaves
-pub record Goes (mem : List ℕ) (k : ℕ) (dx keys waits fars vans : List ℕ) (st : Search) (dx' keys' waits' fars' vans' : List ℕ) (st' : Search) : Type 0 where
-  pub shrunk : Shrunk k keys st keys' fars' vans' st'
-  pub on : (m : Map) (fleet : State) (x : ℕ) (marks : List ℕ) → Genuine m fleet mem → x < m.vertices
-      → SearchingParts m fleet x k dx keys marks waits st.part st.out st.waiting (list_of mem fars vans st.len) → GoesOn m fleet x k mem dx' keys' waits' fars' vans' st'
-
--- The arrays of a search before it starts.
-pub record BeforeSearch (dx keys waits : List ℕ) : Type 0 where
+-- A search before it starts: no distance and no key is known, and nothing waits or is listed.
+pub record BeforeSearch (dx : List ℕ) (st : Search) : Type 0 where
+  pub some : 1 ≤ st.best.k
   pub no_distance : (v : ℕ) → v < length dx → word dx v ≡ FAR
-  pub keys_length : length keys ≡ 512
-  pub no_key : (q : ℕ) → q < 512 → word keys q ≡ FAR
-  pub waits_length : length waits ≡ 512
+  pub keys_length : length st.waiting.keys ≡ 512
+  pub no_key : (q : ℕ) → q < 512 → word st.waiting.keys q ≡ FAR
+  pub waits_length : length st.waiting.waits ≡ 512
+  pub none_waits : st.waiting.n ≡ 0
+  pub none_listed : st.best.offers ≡ []
 
 -- The answer with a list written over its first words: the words after the list stay.
 unfoldable pub list_written : List Listed → List ℕ → List ℕ

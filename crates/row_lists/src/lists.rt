@@ -4,6 +4,7 @@ ghost use Rattle.std.specs.Prelude.{◌≡◌, ◌≤◌, length, take};
 
 // The rows whose vertices have a distance to the vertex asked at, the first `known` of `places`, each with its distance in `near`; and the rows whose distance is
 // asked for, the first `count` of `asked`.
+#[derive(Drop)]
 pub struct RowLists {
     pub places: [u32; 128],
     pub near: [u32; 128],

@@ -18,6 +18,6 @@ pub search_with-requires : goal.search_with-requires
 search_with-requires c =
     (c.requires.0, c.requires.1, far_array 1024)
 
-pub search_with-requires-2 : goal.search_with-requires-2
-search_with-requires-2 c =
+pub search_with-requires-else-word-le-FEW_VERTICES : goal.search_with-requires-else-word-le-FEW_VERTICES
+search_with-requires-else-word-le-FEW_VERTICES c =
     (c.requires.0, c.requires.1, far_array 4096)
