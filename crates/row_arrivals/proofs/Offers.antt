@@ -4,7 +4,7 @@ use mathlib.Core.Path.{◌≡◌, refl, sym, ◌∙◌, ap}
 use mathlib.Core.Bool.{◌&&◌, cond}
 use mathlib.Core.List.{List}
 use mathlib.Core.Logic.{inl, inr}
-use Prim.Native.Nat.{ℕ, zero, suc, ◌+◌, ◌-◌, ◌/◌, ◌%◌, ◌≤◌, ◌<◌, min}
+use Prim.Native.Nat.{ℕ, zero, suc, ◌+◌, ◌/◌, ◌%◌, ◌≤◌, ◌<◌, min}
 use native.Mathlib.Decide.{ℕ_discrete, dec_lt}
 use native.Mathlib.Omega.{arith}
 use lib.ListN.{get_or, set}
@@ -19,14 +19,6 @@ use Rattle.row_words.proofs.Words.{placed_row}
 
 -- An offer.
 module _ (v x d : ℕ) where
-  pub seen_near : (out : ℕ) → d < FAR - x → out ≡ placed v (x + d) → out ≡ placed_seen v x d
-  unfolding placed_seen
-  seen_near out near e = rw (lt-ltb (x + d) FAR (omega arith)) e
-
-  pub seen_far : x ≤ FAR → FAR - x ≤ d → 18446744073709551615 ≡ placed_seen v x d
-  unfolding placed_seen
-  seen_far most far = rw (le-ltb (x + d) FAR (omega arith))
-
   module _ (row seen : ℕ) (e : seen ≡ placed_seen v x d) (small : v < 4294967296) (fits : row < 18446744073709551616) where
     nearer_taken : seen < row → unplaced seen ≡ offered_to (unplaced row) v x d
     unfolding placed_seen offered_to improves

@@ -14,11 +14,9 @@ use part_words::PartRows;
 use row_words::{place, row_of, source};
 use rows::Row;
 
-// The place of number 0 where it does not reach.
-const FIRST_PLACE: u64 = 18446744069414584320;
-
 // The place of what a row shows, seen d further on; where that is too far, the last of all numbers, which comes before no row: so the nearer of two rows is the lesser
 // of two numbers, without a jump.
+#[tactic(auto, unfolding(crate::specs::Arrival::placed_seen))]
 fn place_seen(seen: Row, d: u32) -> u64
     ensures { result ≡ placed_seen seen.vertex seen.distance d }
 {
@@ -30,6 +28,7 @@ fn place_seen(seen: Row, d: u32) -> u64
 }
 
 // Of a row, and of what another shows, seen d further on, the one that comes before.
+#[tactic(auto, using(crate::proofs::Offers::nearer_least))]
 fn nearer_place(row: u64, seen: Row, d: u32) -> u64
     ensures { unplaced result ≡ offered_to (unplaced row) seen.vertex seen.distance d }
 {
@@ -37,6 +36,7 @@ fn nearer_place(row: u64, seen: Row, d: u32) -> u64
 }
 
 // What a row shows is offered to a row that stands d further on.
+#[tactic(auto, using(crate::proofs::Offers::offered_is))]
 fn offer(mem: &mut [u32], to: usize, seen: Row, d: u32)
     requires { to + 1 < length mem.old }
     ensures { mem.new ≡ offered mem.old to seen.vertex seen.distance d }
@@ -48,11 +48,13 @@ fn offer(mem: &mut [u32], to: usize, seen: Row, d: u32)
 }
 
 // It is offered to all rows of a part, with the distances of a line of the table.
+#[tactic(auto, using(crate::proofs::Offers::spread_turn, crate::proofs::Offers::spread_done))]
 fn spread_line(mem: &mut [u32], part: PartRows, line: usize, seen: Row)
     requires within { Within mem.old part }
     requires line { line + part.size ≤ length mem.old }
     ensures { mem.new ≡ spread part.size mem.old part.first line seen.vertex seen.distance }
 {
+    // By index: rows and table stand in one memory, and forged words may let them overlap.
     for i in 0..part.size {
         let d = mem[line + i];
         offer(mem, part.row(i), seen, d);
@@ -77,6 +79,7 @@ fn meet(mem: &mut [u32], part: PartRows, v: u32, i: usize) -> bool
 }
 
 // The sources of the rows with these numbers are met. Says whether any was offered.
+#[tactic(auto, using(crate::proofs::Sources::arrived_turn, crate::proofs::Sources::arrived_done, crate::proofs::Sources::news_turn, crate::proofs::Sources::news_done, crate::proofs::Sources::or_comm))]
 fn meet_all(mem: &mut [u32], numbers: &[u32], part: PartRows, v: u32) -> bool
     requires within { Within mem.old part }
     requires are_rows { EachBelow part.size numbers.now }
@@ -90,17 +93,18 @@ fn meet_all(mem: &mut [u32], numbers: &[u32], part: PartRows, v: u32) -> bool
 }
 
 // Of the rows with these numbers one whose source is the nearest: its number.
+#[tactic(auto, using(crate::proofs::Sources::lead_turn, crate::proofs::Sources::lead_done))]
 fn nearest_number(mem: &[u32], numbers: &[u32], part: PartRows) -> usize
     requires within { Within mem.now part }
     requires are_rows { EachBelow part.size numbers.now }
     ensures { result ≡ lead numbers.now mem.now part.first }
 {
-    let mut best = FIRST_PLACE;
+    let mut best = place(0, Row::FAR);
     for i in numbers {
         let seen = source(mem, part.row(wide(*i)));
         best = best.min(place(*i, seen.distance));
     }
-    (best % 4294967296) as usize
+    wide(row_of(best).vertex)
 }
 
 // The sources of the rows with these numbers are met, the nearest first: what it brings the others often need not bring again. Says whether any was offered.

@@ -2,24 +2,14 @@
 -- Assumes nothing.
 use mathlib.Core.Path.{◌≡◌, sym, ◌∙◌, ap}
 use mathlib.Core.List.{List}
-use Prim.Native.Nat.{ℕ, ◌+◌, ◌*◌, ◌/◌, ◌%◌, ◌≤◌, ◌<◌, min}
+use Prim.Native.Nat.{ℕ, ◌+◌, ◌*◌, ◌≤◌, ◌<◌, min}
 use native.Mathlib.Numerals.{add-one}
 use lib.ListN.{length, get_or, drop, drop_of_length-le}
 use lib.Seq.{drop-cons}
-use borrow.Author.Tests.{lt-ltb, le-ltb}
 use Rattle.rows.specs.declared.Row.{Row}
-use Rattle.rows.specs.Row.{empty_row}
 use Rattle.row_words.specs.Words.{shown}
 use Rattle.row_departures.specs.declared.Source.{Source}
 use Rattle.row_departures.specs.Departure.{far_key, unkeyed, gathered, renewed}
-
-pub key_near : (key : ℕ) (row : Row) → key < far_key → row ≡ record { vertex = key % 65536; distance = key / 65536 } → row ≡ unkeyed key
-unfolding unkeyed
-key_near key row near e = rw (lt-ltb key far_key near) e
-
-pub key_far : (key : ℕ) (row : Row) → far_key ≤ key → row ≡ empty_row → row ≡ unkeyed key
-unfolding unkeyed
-key_far key row far e = rw (le-ltb key far_key far) e
 
 -- The keys gathered, and the rows made anew of them.
 pub gathered_turn : (sources : List Source) (mem : List ℕ) (column k best seen next : ℕ) (d : Source) → k < length sources

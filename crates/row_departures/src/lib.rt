@@ -8,15 +8,15 @@ ghost use Rattle.row_departures.specs.Departure.{filled, keyed, far_key, unkeyed
 
 use cells::{more, wide};
 use layout::RowRecord;
-use part_words::PartRows;
+use part_words::{MOST_ROWS, PartRows};
 use row_words::{numbered, row_numbered, show, source};
 use rows::Row;
 
 // A key has room for every vertex below 65,536, and so for a distance to be added.
 const KEY: u64 = 65536;
 
-// The least key of what does not reach.
-const FAR_KEY: u64 = 281474976645120;
+// The least key of what does not reach: one more number to compare, so that the least of all keys needs no jump.
+const FAR_KEY: u64 = Row::FAR as u64 * KEY;
 
 // What stands one step further down from a row of a part, as a key; and how far into the table the row's line is.
 #[derive(Clone, Copy)]
@@ -39,6 +39,7 @@ fn key_seen(key: u64, d: u32) -> u64
     key + u64::from(d) * KEY
 }
 
+#[tactic(auto, unfolding(crate::specs::Departure::unkeyed))]
 fn row_of_key(key: u64) -> Row
     ensures { result ≡ unkeyed key }
 {
@@ -50,7 +51,7 @@ fn row_of_key(key: u64) -> Row
 }
 
 // The sources of a part's rows that are not empty. Says how many there are.
-fn list_sources(mem: &[u32], part: PartRows, sources: &mut [Source; 128]) -> usize
+fn list_sources(mem: &[u32], part: PartRows, sources: &mut [Source; MOST_ROWS]) -> usize
     requires { Within mem.now part }
     ensures few { result ≤ part.size }
     ensures listed { take result sources.new ≡ map (source_of mem.now part.first part.size) (filled mem.now part.first part.size) }
@@ -69,6 +70,7 @@ fn list_sources(mem: &[u32], part: PartRows, sources: &mut [Source; 128]) -> usi
 }
 
 // The least key of these sources, with the distances of a column of the table.
+#[tactic(auto, using(crate::proofs::Keys::gathered_turn, crate::proofs::Keys::gathered_done))]
 fn gather(mem: &[u32], part: PartRows, sources: &[Source], i: usize) -> u64
     requires within { Within mem.now part }
     requires sound { Sound part.size sources.now }
@@ -84,6 +86,7 @@ fn gather(mem: &[u32], part: PartRows, sources: &[Source], i: usize) -> u64
 }
 
 // The rows with these numbers are made anew.
+#[tactic(auto, using(crate::proofs::Keys::renewed_turn, crate::proofs::Keys::renewed_done))]
 fn renew_all(mem: &mut [u32], numbers: &[u32], part: PartRows, sources: &[Source])
     requires within { Within mem.old part }
     requires sound { Sound part.size sources.now }
@@ -98,12 +101,13 @@ fn renew_all(mem: &mut [u32], numbers: &[u32], part: PartRows, sources: &[Source
 }
 
 // The rows with these numbers are made anew from the part's sources as they stand.
+#[tactic(auto, unfolding(crate::specs::Departure::remade))]
 pub fn renew_part(mem: &mut [u32], numbers: &[u32], part: PartRows)
     requires within { Within mem.old part }
     requires are_rows { EachBelow part.size numbers.now }
     ensures { mem.new ≡ remade numbers.now mem.old part.first part.table part.size }
 {
-    let mut sources = [Source { key: 0, step: 0 }; 128];
+    let mut sources = [Source { key: 0, step: 0 }; MOST_ROWS];
     let n = list_sources(mem, part, &mut sources);
     renew_all(mem, numbers, part, &sources[..n]);
 }

@@ -20,7 +20,8 @@ use Rattle.rows.specs.Refresh.{onward}
 use Rattle.row_changes.proofs.Order.{met, met_turn, met_kept}
 use Rattle.row_words.specs.Words.{row_in, shown, source_in}
 use Rattle.row_refresh.specs.Model.{shows_in, showing, departed}
-use Rattle.row_departures.specs.Departure.{filled, keyed, far_key, unkeyed, source_key, gathered, renewed, remade}
+use Rattle.row_departures.specs.declared.Source.{Source}
+use Rattle.row_departures.specs.Departure.{filled, keyed, far_key, unkeyed, source_of, gathered, renewed, remade}
 use Rattle.row_memory.specs.Kept.{Kept}
 use Rattle.row_memory.proofs.Offered.{Plain, onward_plain, nearer_plain, nearer_empty, shown_row, OneRow, kept_self, kept_trans, one_shown, one_self}
 use Rattle.row_memory.proofs.Keys.{KeyOf, key_none, key_nearer}
@@ -49,12 +50,12 @@ module _ (rows size table : ℕ) (from : ℕ → Row) (far : ℕ → ℕ → ℕ
 
   module _ (first after : List ℕ) (facts : Facts rows size table from far first) (j : ℕ) (entry : (i : ℕ) → i < size → word after (table + (size * i + j)) ≡ far i j) where
     gathered_at : (numbers : List ℕ) → ((i : ℕ) → Memᴰ i numbers → i < size) → (row : Row) (key : ℕ) → KeyOf row key
-        → KeyOf (met (seen j) (seen j) (λ n. true) row numbers) (gathered (map (source_key first rows) numbers) (map (λ i. size * i) numbers) after (table + j) key)
+        → KeyOf (met (seen j) (seen j) (λ n. true) row numbers) (gathered (map (source_of first rows size) numbers) after (table + j) key)
     unfolding gathered
     gathered_at [] within row key k = k
     gathered_at (i ∷ numbers) within row key k =
-        subst⁻¹ (λ (n : ℕ). KeyOf (met (seen j) (seen j) (λ n. true) row (i ∷ numbers)) (gathered (map (source_key first rows) numbers) (map (λ i. size * i) numbers) after (table + j) (min key n))) same
-        (subst (λ (r : Row). KeyOf r (gathered (map (source_key first rows) numbers) (map (λ i. size * i) numbers) after (table + j) (min key (keyed (from i) + far i j * 65536))))
+        subst⁻¹ (λ (n : ℕ). KeyOf (met (seen j) (seen j) (λ n. true) row (i ∷ numbers)) (gathered (map (source_of first rows size) numbers) after (table + j) (min key n))) same
+        (subst (λ (r : Row). KeyOf r (gathered (map (source_of first rows size) numbers) after (table + j) (min key (keyed (from i) + far i j * 65536))))
         (met_turn (seen j) (seen j) (λ n. true) row i numbers)
         (gathered_at numbers (λ n h. within n (Memᴰ.tail h)) (nearer (seen j i) row) (min key (keyed (from i) + far i j * 65536)) (key_nearer (from i) row (far i j) key (fits i hi) k)))
       where
@@ -64,7 +65,7 @@ module _ (rows size table : ℕ) (from : ℕ → Row) (far : ℕ → ℕ → ℕ
         place : (a : ℕ) → table + j + a ≡ table + (a + j)
         place a = omega arith
 
-        same : source_key first rows i + word after (table + j + size * i) * 65536 ≡ keyed (from i) + far i j * 65536
+        same : (source_of first rows size i).key + word after (table + j + size * i) * 65536 ≡ keyed (from i) + far i j * 65536
         same t = keyed (facts.source i hi t) + (ap (word after) (place (size * i)) ∙ entry i hi) t * 65536
 
   -- the sources that are not empty are enough
@@ -95,23 +96,23 @@ module _ (rows size table : ℕ) (from : ℕ → Row) (far : ℕ → ℕ → ℕ
         by (no away) = ap (λ (r : Row). nearer r row) (rw (le-ltb ((from i).distance + far i j) FAR (omega (arith, away)))) ∙ nearer_empty row (met_plain j ys)
 
     made : (after : List ℕ) (j : ℕ) → ((i : ℕ) → i < size → word after (table + (size * i + j)) ≡ far i j)
-        → unkeyed (gathered (map (source_key first rows) (filled first rows size)) (map (λ i. size * i) (filled first rows size)) after (table + j) far_key) ≡ anew j
+        → unkeyed (gathered (map (source_of first rows size) (filled first rows size)) after (table + j) far_key) ≡ anew j
     unfolding filled
     made after j entry =
         (gathered_at first after facts j entry (keep reaching (up_to size)) (λ i h. number i (keep_says reaching (up_to size) i h).0) empty_row far_key key_none).shows
         ∙ met_kept (seen j) (seen j) (λ n. true) empty_row reaching (up_to size) (needless j)
 
   -- what makes a row anew, whatever the part's own rows show
-  abbrev Gathers : List ℕ → List ℕ → List ℕ → Type 0
-  Gathers first keys steps = (after : List ℕ) → Kept rows size first after → (j : ℕ) → j < size → unkeyed (gathered keys steps after (table + j) far_key) ≡ anew j
+  abbrev Gathers : List ℕ → List Source → Type 0
+  Gathers first sources = (after : List ℕ) → Kept rows size first after → (j : ℕ) → j < size → unkeyed (gathered sources after (table + j) far_key) ≡ anew j
 
-  module _ (chosen : ℕ → Bool) (first keys steps : List ℕ) (gathers : Gathers first keys steps) where
+  module _ (chosen : ℕ → Bool) (first : List ℕ) (sources : List Source) (gathers : Gathers first sources) where
     -- a row after a departure
     abbrev left_by : ℕ → Row → Row
     left_by j row = cond (chosen j) (anew j) row
 
     renewed_from : (left i : ℕ) (mem : List ℕ) → i + left ≡ size → rows + words_in_row * size ≤ length mem → Kept rows size first mem
-        → Swept rows size table from far left_by i mem (renewed (keep chosen (count_from i left)) mem keys steps rows table)
+        → Swept rows size table from far left_by i mem (renewed (keep chosen (count_from i left)) mem sources rows table)
     unfolding renewed
     renewed_from zero i mem all long kept = swept_none rows size table from far left_by mem i (omega arith)
     renewed_from (suc left) i mem all long kept =
@@ -122,25 +123,25 @@ module _ (rows size table : ℕ) (from : ℕ → Row) (far : ℕ → ℕ → ℕ
         hi = omega arith
 
         next : List ℕ
-        next = shown mem (rows + words_in_row * i) (unkeyed (gathered keys steps mem (table + i) far_key))
+        next = shown mem (rows + words_in_row * i) (unkeyed (gathered sources mem (table + i) far_key))
 
         is_anew : row_in next (rows + words_in_row * i) ≡ anew i
-        is_anew = shown_row mem (rows + words_in_row * i) (unkeyed (gathered keys steps mem (table + i) far_key)) (omega arith) ∙ gathers mem kept i hi
+        is_anew = shown_row mem (rows + words_in_row * i) (unkeyed (gathered sources mem (table + i) far_key)) (omega arith) ∙ gathers mem kept i hi
 
         one : OneRow rows size i mem next
-        one = one_shown rows size i hi mem (unkeyed (gathered keys steps mem (table + i) far_key))
+        one = one_shown rows size i hi mem (unkeyed (gathered sources mem (table + i) far_key))
 
         rest : List ℕ
         rest = keep chosen (count_from (suc i) left)
 
-        by : (b : Bool) → chosen i ≡ b → Swept rows size table from far left_by (suc i) next (renewed rest next keys steps rows table)
-            → Swept rows size table from far left_by (suc i) mem (renewed rest mem keys steps rows table)
-            → Swept rows size table from far left_by i mem (renewed (cond b (i ∷ rest) rest) mem keys steps rows table)
+        by : (b : Bool) → chosen i ≡ b → Swept rows size table from far left_by (suc i) next (renewed rest next sources rows table)
+            → Swept rows size table from far left_by (suc i) mem (renewed rest mem sources rows table)
+            → Swept rows size table from far left_by i mem (renewed (cond b (i ∷ rest) rest) mem sources rows table)
         by true e later still =
-            swept_step rows size table from far left_by i mem next (renewed rest next keys steps rows table) one
+            swept_step rows size table from far left_by i mem next (renewed rest next sources rows table) one
             (is_anew ∙ sym (ap (λ (b : Bool). cond b (anew i) (row_in mem (rows + words_in_row * i))) e)) later
         by false e later still =
-            swept_step rows size table from far left_by i mem mem (renewed rest mem keys steps rows table) (one_self rows size i hi mem)
+            swept_step rows size table from far left_by i mem mem (renewed rest mem sources rows table) (one_self rows size i hi mem)
             (sym (ap (λ (b : Bool). cond b (anew i) (row_in mem (rows + words_in_row * i))) e)) still
 
   pub departed_rows : (v : ℕ) (mem : List ℕ) → Ready rows size table from far mem
@@ -148,9 +149,9 @@ module _ (rows size table : ℕ) (from : ℕ → Row) (far : ℕ → ℕ → ℕ
   unfolding remade showing shows_in
   departed_rows v mem ready =
       let whole =
-      renewed_from (λ i. eqb (word mem (rows + words_in_row * i)) v) mem (map (source_key mem rows) (filled mem rows size)) (map (λ i. size * i) (filled mem rows size)) gathers size 0 mem (omega arith) ready.fits (kept_self rows size mem)
+      renewed_from (λ i. eqb (word mem (rows + words_in_row * i)) v) mem (map (source_of mem rows size) (filled mem rows size)) gathers size 0 mem (omega arith) ready.fits (kept_self rows size mem)
       in
       record { kept = whole.kept; shows = λ j h. whole.shows j (omega arith) h }
     where
-      gathers : Gathers mem (map (source_key mem rows) (filled mem rows size)) (map (λ i. size * i) (filled mem rows size))
+      gathers : Gathers mem (map (source_of mem rows size) (filled mem rows size))
       gathers after kept j hj = made mem (ready.facts mem (kept_self rows size mem)) after j (λ i hi. (ready.facts after kept).entry i j hi hj)

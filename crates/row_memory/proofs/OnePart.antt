@@ -22,7 +22,7 @@ use Rattle.row_changes.proofs.Order.{onward_le, onward_twice, nearer_kept, not_b
 use Rattle.row_words.specs.Words.{row_in, source_in}
 use Rattle.row_arrivals.specs.Arrival.{offered, spread, is_news, met as metIn, arrived, any_news, lead, led}
 use Rattle.row_refresh.specs.Model.{shows_in, showing}
-use Rattle.row_arrivals.proofs.Sources.{lead_within}
+use Rattle.row_arrivals.proofs.Sources.{lead_within, news_kept}
 use Rattle.row_memory.specs.Kept.{Kept}
 use Rattle.row_memory.proofs.Offered.{Plain, onward_plain, nearer_plain, offered_row, OneRow, kept_self, kept_trans, one_offered}
 
@@ -259,18 +259,6 @@ module _ (rows size table : ℕ) (from : ℕ → Row) (far : ℕ → ℕ → ℕ
                   ∙ met_again (seen_from j) (seen_from j) shows_it (row_in mem (rows + words_in_row * j)) first (up_to size) (up_to_has size first hf);
             }
 
-    news_kept : (numbers mem : List ℕ) → any_news true numbers mem rows table size v ≡ true
-    unfolding any_news
-    news_kept [] mem = refl
-    news_kept (i ∷ numbers) mem = by (is_news mem v (rows + words_in_row * i)) (news_kept numbers (metIn mem rows size v (rows + words_in_row * i) (table + size * i)))
-      where
-        next : List ℕ
-        next = metIn mem rows size v (rows + words_in_row * i) (table + size * i)
-
-        by : (b : Bool) → any_news true numbers next rows table size v ≡ true → any_news (b || true) numbers next rows table size v ≡ true
-        by true later = later
-        by false later = later
-
     -- No source was offered: the memory is as it was.
     pub arrived_none : (numbers mem : List ℕ) → any_news false numbers mem rows table size v ≡ false → arrived numbers mem rows table size v ≡ mem
     unfolding arrived any_news metIn
@@ -282,5 +270,5 @@ module _ (rows size table : ℕ) (from : ℕ → Row) (far : ℕ → ℕ → ℕ
 
         by : (b : Bool) → is_news mem v (rows + words_in_row * i) ≡ b → any_news (b || false) numbers (cond b spreads mem) rows table size v ≡ false
             → (any_news false numbers mem rows table size v ≡ false → arrived numbers mem rows table size v ≡ mem) → arrived numbers (cond b spreads mem) rows table size v ≡ mem
-        by true f g later = absurd (true≢false (sym (news_kept numbers spreads) ∙ g))
+        by true f g later = absurd (true≢false (sym (news_kept rows table size v numbers spreads) ∙ g))
         by false f g later = later g

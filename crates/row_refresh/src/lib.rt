@@ -9,7 +9,7 @@ ghost use Rattle.row_refresh.specs.Model.{changed, touches, refreshed, touched, 
 
 use cells::{more, word};
 use layout::{PartRecord, VertexRecord, part_word};
-use part_words::{PartRows, part_rows};
+use part_words::{MOST_ROWS, PartRows, part_rows};
 use places::{counts_in, vertex_at};
 use row_arrivals::meet_led;
 use row_departures::renew_part;
@@ -19,7 +19,11 @@ use rows::Row;
 const MOST_LEVELS: usize = 16;
 
 // The numbers below `size` that pass a test. Says how many there are.
-fn list_passing<F: Fn(usize) -> bool>(size: usize, passes: F, numbers: &mut [u32; 128]) -> usize
+fn list_passing<F: Fn(usize) -> bool>(
+    size: usize,
+    passes: F,
+    numbers: &mut [u32; MOST_ROWS],
+) -> usize
     requires few { size ≤ 128 }
     requires callable { (i : ℕ) → i < size → F.pre passes i }
     ensures few { result ≤ size }
@@ -38,7 +42,7 @@ fn arrive(mem: &mut [u32], part: PartRows, v: u32) -> bool
     requires { Within mem.old part }
     ensures { (mem.new ≡ changed mem.old part.first part.table part.size v true) × (result ≡ touches mem.old part.first part.table part.size v true) }
 {
-    let mut numbers = [0; 128];
+    let mut numbers = [0; MOST_ROWS];
     let n = list_passing(
         part.size,
         |i| source(mem, part.row(i)).vertex == v,
@@ -55,7 +59,7 @@ fn depart(mem: &mut [u32], part: PartRows, v: u32) -> bool
     requires { Within mem.old part }
     ensures { (mem.new ≡ changed mem.old part.first part.table part.size v false) × (result ≡ touches mem.old part.first part.table part.size v false) }
 {
-    let mut numbers = [0; 128];
+    let mut numbers = [0; MOST_ROWS];
     let n = list_passing(part.size, |i| mem[part.row(i)] == v, &mut numbers);
     if n == 0 {
         return false;
@@ -78,7 +82,8 @@ fn refresh(mem: &mut [u32], p: u32, v: u32, arrives: bool) -> bool
     }
 }
 
-// The rows of part p and of each part above it: the number falls at each parent.
+// The rows of part p and of each part above it: the number falls at each parent. Whether v is active goes along, as a fact of the fleet: a change passed in its place
+// would have to be named in each clause.
 fn refresh_up(mem: &mut [u32], p: u32, v: u32, arrives: bool, levels: usize)
     requires { levels ≤ 16 }
     ensures { mem.new ≡ refreshed_up levels mem.old p v arrives }
