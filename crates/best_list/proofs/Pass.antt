@@ -16,8 +16,7 @@ use Rattle.std.proofs.lemmas.List.{get_or-take, take_more_set, length-map, map-s
 use Rattle.words.proofs.Tests.{true_or_false, pair_le_trans, pair_first, pair_second, pair_says}
 use Rattle.fleet.specs.Question.{Listed, listed_before}
 use Rattle.best_list.specs.declared.Offer.{Offer}
-use Rattle.best_list.specs.Order.{NoLater, offer_at, InOrder, BeforeNone}
-use Rattle.best_list.specs.Best.{listed, listing, pass, limit_of, offered}
+use Rattle.best_list.specs.Best.{listed, listing, pass, limit_of, offered, NoLater, offer_at, InOrder, BeforeNone}
 
 -- What the order of two entries tells of their offers, and the other way round.
 pub in_front : (a b : Offer) → ((stampOf : ℕ → ℕ) → listed_before (listing stampOf a) (listing stampOf b) ≡ true) → NoLater a b

@@ -1,3 +1,2 @@
 -- The list of the best k so far, as entries of a question's list.
-pub mod Order
 pub mod Best

@@ -3,8 +3,7 @@
 
 ghost use Rattle.std.specs.Prelude.{◌≡◌, [], ℕ, ◌≤◌, ◌<◌, length};
 ghost use Rattle.fleet.specs.Question.{listed_before};
-ghost use Rattle.best_list.specs.Best.{Best, listing, entries, limit_of, offered};
-ghost use Rattle.best_list.specs.Order.{BeforeNone};
+ghost use Rattle.best_list.specs.Best.{Best, listing, entries, limit_of, offered, InOrder, BeforeNone};
 
 use std::marker::Model;
 
@@ -34,8 +33,7 @@ pub struct BestList {
 
 impl Model for BestList {
     ghost use Rattle.std.specs.Prelude.{take};
-    ghost use Rattle.best_list.specs.Best.{Best};
-    ghost use Rattle.best_list.specs.Order.{Standing};
+    ghost use Rattle.best_list.specs.Best.{Best, Standing};
 
     ghost Value = { Best };
 
@@ -60,6 +58,7 @@ impl BestList {
     // The offers that are listed, the first of them first.
     pub fn offers(&self) -> &[Offer]
         ensures offers { result.now ≡ self.now.offers }
+        ensures order { InOrder self.now.offers }
         ensures room { length self.now.offers ≤ self.now.k }
         ensures most { self.now.k ≤ 32 }
     {

@@ -2,7 +2,7 @@
 -- Assumes nothing.
 use mathlib.Core.Path.{◌≡◌, refl, subst}
 use mathlib.Core.List.{List, []}
-use Prim.Native.Nat.{ℕ, ◌+◌, ◌≤◌, ◌<◌}
+use Prim.Native.Nat.{ℕ, ◌%◌, ◌+◌, ◌≤◌, ◌<◌}
 use native.Mathlib.Omega.{arith}
 use Rattle.words.specs.Lists.{word}
 use Rattle.roads.specs.Map.{Map}
@@ -14,7 +14,7 @@ use Rattle.best_list.specs.Best.{Best, entries, limit_of, offered_all}
 use Rattle.van_offers.specs.Offers.{stamp_in, van_offers}
 use Rattle.van_offers.specs.Genuine.{Genuine, list_in}
 use Rattle.van_offers.proofs.Steps.{vans_end}
-use Rattle.near_vans.specs.Around.{Waits, SearchingAround, Started, LeastLabel, Taken, MetAll}
+use Rattle.near_vans.specs.Around.{Waits, SearchingAround, NothingTaken, Met, LeastLabel, Taken, MetAll}
 use Rattle.near_vans.proofs.Turns.{started, stopped, turned}
 
 -- what a search keeps
@@ -26,8 +26,8 @@ abbrev pub Answers : (mem : List ℕ) (x k : ℕ) (list : Best) → Type 0
 Answers mem x k list = (m : Map) (fleet : State) → Genuine m fleet mem → x < m.vertices → list_in mem list ≡ nearest m fleet x k
 
 module _ (mem : List ℕ) (x k : ℕ) (some : 1 ≤ k) where
-  pub begun : {f : Waits} → Started x f → Keeps mem x k f (record { offers = []; k = k })
-  begun start m fleet g hx = started g x hx k some start
+  pub begun : {w f : Waits} → NothingTaken w → Met (x % 4096) 0 w f → Keeps mem x k f (record { offers = []; k = k })
+  begun fresh met m fleet g hx = started g x hx k some fresh met
 
   module _ {f : Waits} (list : Best) (kept : Keeps mem x k f list) where
     pub none_waits : f.n ≡ 0 → Answers mem x k list

@@ -1,4 +1,5 @@
 -- Laws that the functions cite.
+pub mod Places
 pub mod Exact
 pub mod Taking
 pub mod Meeting

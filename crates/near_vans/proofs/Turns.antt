@@ -32,7 +32,7 @@ use Rattle.van_offers.specs.Genuine.{Genuine}
 use Rattle.van_offers.proofs.Shown.{vertex_read}
 use Rattle.van_offers.proofs.Heading.{Comer, head_below}
 use Rattle.van_offers.proofs.Comers.{comer_far, settled}
-use Rattle.near_vans.specs.Around.{Waits, Around, van_head, is_offered_near, SearchingAround, Started, LeastLabel, Taken, RoadsFollowed, SameTaken, MetAll}
+use Rattle.near_vans.specs.Around.{Waits, Around, van_head, is_offered_near, SearchingAround, NothingTaken, Met, was_taken, no_less, lowered, new, LeastLabel, Taken, RoadsFollowed, SameTaken, MetAll}
 use Rattle.near_vans.proofs.Exact.{nearer_taken, least_exact}
 use Rattle.near_vans.proofs.Taking.{now_taken, not_taken, others_as_before, taken_around}
 use Rattle.near_vans.proofs.Offering.{offered_is, vertex_best}
@@ -49,30 +49,30 @@ module _ {m : Map} {s : State} {mem : List ℕ} (g : Genuine m s mem) (x : ℕ) 
   few : m.vertices ≤ 4096
   few = g.sound.vertices.1
 
-  -- The start: x waits alone, in arrays to which nothing was written yet.
-  module _ (at₀ labels₀ vertices₀ : List ℕ) (at_length : length at₀ ≡ 4096) (nothing : (v : ℕ) → word at₀ v ≡ 0) (labels_length : length labels₀ ≡ 128) (no_label : word labels₀ 0 ≡ 0) (vertices_length : length vertices₀ ≡ 128)
-      {f : Waits} (is_at : f.at ≡ set at₀ (x % 4096) 1) (labels_are : f.labels ≡ labels₀) (vertices_are : f.vertices ≡ set vertices₀ 0 (x % 4096)) (n_is : f.n ≡ 1) where
+  -- The start: x waits alone, in arrays to which nothing was written before.
+  module _ (w : Waits) {f : Waits} (at_length : length w.at ≡ 4096) (nothing : (v : ℕ) → word w.at v ≡ 0) (labels_length : length w.labels ≡ 128) (vertices_length : length w.vertices ≡ 128)
+      (is_at : f.at ≡ set w.at (x % 4096) 1) (labels_are : f.labels ≡ set w.labels 0 0) (vertices_are : f.vertices ≡ set w.vertices 0 (x % 4096)) (n_is : f.n ≡ 1) where
     x_is : x % 4096 ≡ x
     x_is = mod-eq_of_lt (omega (arith, few))
 
-    at_is : f.at ≡ set at₀ x 1
-    at_is = is_at ∙ ap (λ (u : ℕ). set at₀ u 1) x_is
+    at_is : f.at ≡ set w.at x 1
+    at_is = is_at ∙ ap (λ (u : ℕ). set w.at u 1) x_is
 
     x_waits : word f.at x ≡ 1
-    x_waits = ap (λ (l : List ℕ). word l x) at_is ∙ get_or-set_same at₀ x 1 0 (omega (arith, at_length, few))
+    x_waits = ap (λ (l : List ℕ). word l x) at_is ∙ get_or-set_same w.at x 1 0 (omega (arith, at_length, few))
 
     none_taken : (u : ℕ) → word f.at u ≢ 255
     none_taken u taken = by (ℕ_discrete u x)
       where
         by : Dec (u ≡ x) → ⊥
         by (yes same) = omega (arith, taken, ap (word f.at) same, x_waits)
-        by (no other) = omega (arith, taken, ap (λ (l : List ℕ). word l u) at_is, get_or-set_other at₀ x u 1 0 other, nothing u)
+        by (no other) = omega (arith, taken, ap (λ (l : List ℕ). word l u) at_is, get_or-set_other w.at x u 1 0 other, nothing u)
 
     vertex_first : word f.vertices 0 ≡ x
-    vertex_first = ap (λ (l : List ℕ). word l 0) vertices_are ∙ get_or-set_same vertices₀ 0 (x % 4096) 0 (omega (arith, vertices_length)) ∙ x_is
+    vertex_first = ap (λ (l : List ℕ). word l 0) vertices_are ∙ get_or-set_same w.vertices 0 (x % 4096) 0 (omega (arith, vertices_length)) ∙ x_is
 
     label_first : word f.labels 0 ≡ 0
-    label_first = ap (λ (l : List ℕ). word l 0) labels_are ∙ no_label
+    label_first = ap (λ (l : List ℕ). word l 0) labels_are ∙ get_or-set_same w.labels 0 0 0 (omega (arith, labels_length))
 
     only : (P : ℕ → Type 0) → P 0 → (i : ℕ) → i < f.n → P i
     only P p i h = subst P (zero_is i h) p
@@ -86,9 +86,9 @@ module _ {m : Map} {s : State} {mem : List ℕ} (g : Genuine m s mem) (x : ℕ) 
         record {
           around =
               record {
-                at_length = ap length at_is ∙ length-set at₀ x 1 ∙ at_length;
-                labels_length = ap length labels_are ∙ labels_length;
-                vertices_length = ap length vertices_are ∙ length-set vertices₀ 0 (x % 4096) ∙ vertices_length;
+                at_length = ap length at_is ∙ length-set w.at x 1 ∙ at_length;
+                labels_length = ap length labels_are ∙ length-set w.labels 0 0 ∙ labels_length;
+                vertices_length = ap length vertices_are ∙ length-set w.vertices 0 (x % 4096) ∙ vertices_length;
                 few = omega (arith, n_is);
                 placed = only (λ i. word f.at (word f.vertices i) ≡ suc i) (ap (word f.at) vertex_first ∙ x_waits);
                 is_vertex = only (λ i. word f.vertices i < m.vertices) (omega (arith, vertex_first, hx));
@@ -102,10 +102,24 @@ module _ {m : Map} {s : State} {mem : List ℕ} (g : Genuine m s mem) (x : ℕ) 
         none_offered : (l : Listed) → is_offered_near m s f.at l ≡ false
         none_offered l = ne_eqb (word f.at (van_head m (slot_of s l.van))) 255 (none_taken (van_head m (slot_of s l.van)))
 
-  pub started : {f : Waits} → Started x f → SearchingAround m s x k f []
-  started t =
-      starts (replicate 4096 0) (replicate 128 0) (replicate 128 0) (length-replicate {A = ℕ} 4096 0) (zeros 4096) (length-replicate {A = ℕ} 128 0) (zeros 128 0) (length-replicate {A = ℕ} 128 0)
-      t.at_is t.labels_are t.vertices_are t.n_is
+  pub started : {w f : Waits} → NothingTaken w → Met (x % 4096) 0 w f → SearchingAround m s x k f []
+  started {w} {f} fresh met = by met
+    where
+      none : (v : ℕ) → word w.at v ≡ 0
+      none v = ap (λ (l : List ℕ). word l v) fresh.at_is ∙ zeros 4096 v
+
+      one : f.n ≡ suc w.n → f.n ≡ 1
+      one more = omega (arith, more, fresh.n_is)
+
+      by : Met (x % 4096) 0 w f → SearchingAround m s x k f []
+      by (was_taken taken is_f) = absurd (omega (arith, taken, none (x % 4096)))
+      by (no_less i hi is less is_f) = absurd (omega (arith, hi, fresh.n_is))
+      by (lowered i hi is less is_f) = absurd (omega (arith, hi, fresh.n_is))
+      by (new apart no_place room is_f) =
+          starts w (ap length fresh.at_is ∙ length-replicate {A = ℕ} 4096 0) none (ap length fresh.labels_are ∙ length-replicate {A = ℕ} 128 0) (ap length fresh.vertices_are ∙ length-replicate {A = ℕ} 128 0)
+          (ap (λ (v : Waits). v.at) is_f ∙ ap (λ (i : ℕ). set w.at (x % 4096) (suc i)) fresh.n_is)
+          (ap (λ (v : Waits). v.labels) is_f ∙ ap (λ (i : ℕ). set w.labels i 0) fresh.n_is)
+          (ap (λ (v : Waits). v.vertices) is_f ∙ ap (λ (i : ℕ). set w.vertices i (x % 4096)) fresh.n_is) (one (ap (λ (v : Waits). v.n) is_f))
 
   module _ {f : Waits} {found : List Listed} (st : SearchingAround m s x k f found) where
     -- The end: all that waits is farther than the limit.

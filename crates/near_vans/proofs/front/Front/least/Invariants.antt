@@ -7,4 +7,4 @@ use Rattle.near_vans.specs.Around.{LeastLabel}
 use Rattle.near_vans.proofs.front.Front.least.Given as goal
 
 abbrev pub invariant-loop-i : goal.invariant-loop-i
-invariant-loop-i l = (1 ≤ l.i) × (l.i ≤ l.self-inside.len) × (l.low ≡ word l.self-inside.labels l.place) × LeastLabel l.self-inside.labels l.i l.place
+invariant-loop-i l = (1 ≤ l.i) × (l.i ≤ l.self.n) × (l.low ≡ word l.self.labels l.place) × LeastLabel l.self.labels l.i l.place

@@ -5,11 +5,8 @@ use Prim.Native.Nat.{ℕ, ◌+◌, ◌%◌, ◌<◌, min}
 use native.Mathlib.Omega.{arith}
 use Rattle.std.specs.List.{slice_range}
 use Rattle.words.specs.Lists.{word}
-use Rattle.near_vans.proofs.InRoads.{in_road, going_start, going_on, going_end}
+use Rattle.near_vans.proofs.InRoads.{in_road, going_on, going_end}
 use Rattle.near_vans.proofs.front.Front.meet_all.Goals as goal
-
-pub loop-init : goal.loop-init
-loop-init c = (c.ranges.first.fits, λ m s x v o. going_start o)
 
 pub returns-in_default : goal.returns-in_default
 returns-in_default c = λ m s x v o. going_end o (c.loop.invariant.1 m s x v o) (omega (arith, c.in_default.ensures))
