@@ -2,22 +2,22 @@
 -- Assumes nothing.
 use mathlib.Core.Path.{◌≡◌, refl, ap, ap₂, sym, subst, ◌∙◌}
 use mathlib.Core.Bool.{Bool, true, false, ◌&&◌, cond}
-use mathlib.Core.List.{List, [], ◌∷◌, ◌++◌, Memᴰ}
-use Prim.Native.Nat.{ℕ, suc, ◌+◌, ◌*◌, ◌-◌, ◌≤◌, ◌<◌}
+use mathlib.Core.List.{List, ◌∷◌, ◌++◌, Memᴰ}
+use Prim.Native.Nat.{ℕ, suc, ◌+◌, ◌*◌, ◌-◌, ◌^◌, ◌≤◌, ◌<◌, min}
 use native.Mathlib.Nat.{mul-le-mul_left}
 use native.Mathlib.Decide.{ℕ_discrete}
 use native.Mathlib.Omega.{arith}
-use lib.ListN.{length, set, length-set, get_or-eq_default}
+use lib.ListN.{length, replicate, set, length-set, get_or-eq_default}
 use lib.Seq.{sets, get_or-set_same, get_or-set_other}
 use lib.Dec.{eqb, ltb}
 use borrow.Author.Tests.{eq-eqb, ne_eqb, lt-ltb, le-ltb}
 use Rattle.words.specs.Lists.{word, count_from, up_to, keep, first_or}
-use Rattle.words.proofs.Lists.{count_from_below, keep_same}
+use Rattle.words.specs.Limits.{most_parts}
+use Rattle.words.proofs.Lists.{all_same, count_from_below, keep_same}
 use Rattle.words.proofs.Places.{count_from_from}
 use Rattle.words.proofs.Sums.{sum_last}
-use Rattle.words.proofs.Stores.{stored_join}
 use Rattle.words.proofs.Ranks.{keep_none, keep_split}
-use Rattle.layout.specs.Layout.{words_in_part, child_in_part, words_in_row, parts_at, part_at}
+use Rattle.layout.specs.Layout.{words_in_part, words_in_row, parts_at, part_at}
 use Rattle.roads.specs.Map.{Map, part_count}
 use Rattle.parts.specs.Tree.{parent_of, children}
 use Rattle.parts.specs.Size.{size_of, table_words_below, table_words, rows_below, row_count}
@@ -32,17 +32,9 @@ use Rattle.opening_parts.specs.Parts.{part_words, Sized, PartsReady, PartsStand}
 pub square_fits : (x : ℕ) → x < 65536 → x * x < 4294967296
 square_fits x h = omega (arith, mul-le-mul_left {m = x} {n = 65535} x (omega arith))
 
--- the two halves of a part's record
-pub part_stored : (mem p q : List ℕ) (at a b c d e f : ℕ) → p ≡ sets mem at (a ∷ b ∷ c ∷ d ∷ []) → q ≡ sets p (at + child_in_part) (e ∷ f ∷ 0 ∷ 0 ∷ []) → q ≡ sets mem at (part_words a b c d e f)
-part_stored mem p q at a b c d e f x y =
-    y ∙ ap (λ (l : List ℕ). sets l (at + child_in_part) (e ∷ f ∷ 0 ∷ 0 ∷ [])) x ∙ stored_join mem at (a ∷ b ∷ c ∷ d ∷ []) (e ∷ f ∷ 0 ∷ 0 ∷ [])
-
-pub adopted : (cs cs' : List ℕ) (parent p at sibling : ℕ) → at ≡ parent → sibling ≡ word cs at → cs' ≡ set cs at p → (sibling ≡ word cs parent) × (cs' ≡ set cs parent p)
-adopted cs cs' parent p at sibling a s e = (s ∙ ap (word cs) a, e ∙ ap (λ (i : ℕ). set cs i p) a)
-
--- a size as it is read
-pub size_read : (sizes : List ℕ) (p at raw size : ℕ) → at ≡ p → raw ≡ word sizes at → (raw < 65536 → size ≡ raw) → word sizes p < 65536 → size ≡ word sizes p
-size_read sizes p at raw size a r limited h = let is : raw ≡ word sizes p = r ∙ ap (word sizes) a in limited (omega (arith, is)) ∙ is
+-- what ends at `end` and takes n words, n of them before it
+back : (n end start : ℕ) → n < 4294967296 → n ≤ end → start ≡ end - min n (2 ^ 32 - 1) → start + n ≡ end
+back n end start fits h e = omega arith
 
 -- c is a child of q
 abbrev pub child_test : Map → ℕ → ℕ → Bool
@@ -63,31 +55,34 @@ pub record Families (m : Map) (p : ℕ) (cs : List ℕ) (table row : ℕ) : Type
   pub table_at : table ≡ table_of m p
   pub row_at_lem : row ≡ first_row_of m p
 
-module _ (m : Map) (parents sizes : List ℕ) (parts tablesEnd rowsEnd : ℕ) (cs₀ mem₀ : List ℕ) (ready : PartsReady m parents sizes parts tablesEnd rowsEnd cs₀ mem₀) where
-  pub families_none : Families m parts cs₀ tablesEnd rowsEnd
+module _ (m : Map) (parents sizes : List ℕ) (parts used : ℕ) (mem₀ : List ℕ) (ready : PartsReady m parents sizes parts used mem₀) where
+  pub families_none : (tables_end : ℕ) → tables_end ≡ rows_at m → Families m parts (replicate most_parts 0) tables_end used
   unfolding first_from table_of first_row_of table_words row_count
-  families_none =
+  families_none tables_end tables =
       record {
-        first = λ q h. ready.none q h ∙ ap (λ (k : ℕ). first_or 0 (keep (child_test m q) (count_from parts k))) (let none : 0 ≡ part_count m - parts = omega (arith, ready.count) in none);
-        table_at = ready.tables ∙ rows_start m ∙ ap (λ (k : ℕ). tables_at m + table_words_below m k) (sym ready.count);
-        row_at_lem = ready.rows ∙ sym (rows_end m) ∙ ap (λ (k : ℕ). rows_at m + words_in_row * rows_below m k) (sym ready.count);
+        first = λ q h. all_same most_parts q 0 ∙ ap (λ (k : ℕ). first_or 0 (keep (child_test m q) (count_from parts k))) (let none : 0 ≡ part_count m - parts = omega (arith, ready.sized.count) in none);
+        table_at = tables ∙ rows_start m ∙ ap (λ (k : ℕ). tables_at m + table_words_below m k) (sym ready.sized.count);
+        row_at_lem = ready.sized.rows ∙ sym (rows_end m) ∙ ap (λ (k : ℕ). rows_at m + words_in_row * rows_below m k) (sym ready.sized.count);
       }
 
   pub parts_none : PartsStand m parts mem₀ mem₀
-  parts_none = subst (λ (k : ℕ). Written parts_at words_in_part parts k (part_record m) mem₀ mem₀) ready.count (written_none parts_at words_in_part (part_record m) parts mem₀)
+  parts_none = subst (λ (k : ℕ). Written parts_at words_in_part parts k (part_record m) mem₀ mem₀) ready.sized.count (written_none parts_at words_in_part (part_record m) parts mem₀)
 
-  module _ (p next size table table' row row' parent child sibling : ℕ) (cs cs' mem mem' : List ℕ) (more : next ≡ p + 1) (some : p < parts) (long : length cs ≡ length cs₀) (old : Families m next cs table row)
-      (is-size : word sizes p < 65536 → size ≡ word sizes p) (table_before : size * size ≤ table → table' + size * size ≡ table) (row_before : words_in_row * size ≤ row → row' + words_in_row * size ≡ row)
+  module _ (p next size table table' row row' parent child sibling at : ℕ) (cs cs' mem mem' : List ℕ) (more : next ≡ p + 1) (some : p < parts) (long : length cs ≡ most_parts) (old : Families m next cs table row)
+      (is-size : size ≡ word sizes p) (table_before : table' ≡ table - min (size * size) (2 ^ 32 - 1)) (row_before : row' ≡ row - min (size * words_in_row) (2 ^ 32 - 1))
       (is-parent : parent ≡ word parents p) (is_child : child ≡ word cs p) (is-sibling : sibling ≡ word cs parent) (adopts : cs' ≡ set cs parent p)
-      (stored : mem' ≡ sets mem (part_at p) (part_words parent size row' table' child sibling)) where
+      (is_at : at ≡ part_at p) (stored : mem' ≡ sets mem at (part_words parent size row' table' child sibling)) where
     here : p < part_count m
-    here = omega (arith, ready.count)
+    here = omega (arith, ready.sized.count)
 
     later : next ≡ suc p
     later = omega arith
 
     size_is : size ≡ size_of m p
-    size_is = is-size (omega (arith, ready.sizes_shown p here, ready.small p here)) ∙ ready.sizes_shown p here
+    size_is = is-size ∙ ready.sized.shown p here
+
+    size_small : size < 65536
+    size_small = omega (arith, size_is, ready.sized.small p here)
 
     parent_is : parent ≡ parent_of m p
     parent_is = is-parent ∙ ready.parents_shown p here
@@ -101,10 +96,10 @@ module _ (m : Map) (parents sizes : List ℕ) (parts tablesEnd rowsEnd : ℕ) (c
     row_step = omega (arith, ap (first_row_of m) later, sum_last (size_of m) p, size_is)
 
     table_is : table' ≡ table_of m p
-    table_is = omega (arith, table_step, old.table_at, table_before (omega (arith, table_step, old.table_at)))
+    table_is = omega (arith, table_step, old.table_at, back (size * size) table table' (square_fits size size_small) (omega (arith, table_step, old.table_at)) table_before)
 
     row_is : row' ≡ first_row_of m p
-    row_is = omega (arith, row_step, old.row_at_lem, row_before (omega (arith, row_step, old.row_at_lem)))
+    row_is = omega (arith, row_step, old.row_at_lem, back (size * words_in_row) row row' (omega (arith, size_small)) (omega (arith, row_step, old.row_at_lem)) row_before)
 
     first_later : (q : ℕ) → q < length cs → word cs q ≡ first_from m q (suc p)
     first_later q h = old.first q h ∙ ap (first_from m q) later
@@ -114,7 +109,7 @@ module _ (m : Map) (parents sizes : List ℕ) (parts tablesEnd rowsEnd : ℕ) (c
     unfolding children first_from
     child_is =
         is_child
-        ∙ first_later p (omega (arith, long, ready.wide, ready.few, here))
+        ∙ first_later p (omega (arith, long, ready.few, here))
         ∙ ap (first_or 0) (sym (keep_from (child_test m p) (suc p) (part_count m) (omega (arith, here)) none_below))
       where
         by_number : (c : ℕ) → c < suc p → Dec (c ≡ 0) → child_test m p c ≡ false
@@ -155,9 +150,9 @@ module _ (m : Map) (parents sizes : List ℕ) (parts tablesEnd rowsEnd : ℕ) (c
 
         by : Dec (p ≡ 0) → word cs (parent_of m p) ≡ first_or 0 (keep (child_test m (parent_of m p)) (count_from (suc p) (part_count m - suc p)))
         by (yes root) =
-            get_or-eq_default cs 0 (omega (arith, long, ready.wide, ready.root, ap (parent_of m) root))
+            get_or-eq_default cs 0 (omega (arith, long, ready.root, ap (parent_of m) root))
             ∙ ap (first_or 0) (sym (keep_none (child_test m (parent_of m p)) (count_from (suc p) (part_count m - suc p)) (λ q h. none_here q h root)))
-        by (no other) = first_later (parent_of m p) (omega (arith, long, ready.wide, ready.few, here, ready.falls p (omega (arith, other)) here))
+        by (no other) = first_later (parent_of m p) (omega (arith, long, ready.few, here, ready.falls p (omega (arith, other)) here))
 
     same_record : part_words parent size row' table' child sibling ≡ part_record m p
     unfolding part_record
@@ -170,7 +165,7 @@ module _ (m : Map) (parents sizes : List ℕ) (parts tablesEnd rowsEnd : ℕ) (c
     parts_more : PartsStand m next mem₀ mem → PartsStand m p mem₀ mem'
     parts_more w =
         written_down parts_at words_in_part (part_record m) p next (part_count m) mem₀ mem mem' more here sized (omega (arith, ready.room, w.long, here)) w
-        (stored ∙ ap (sets mem (part_at p)) same_record)
+        (stored ∙ ap₂ (sets mem) is_at same_record)
 
     -- p in front of the children of its parent
     first_now : (q : ℕ) → q < length cs' → word cs' q ≡ first_from m q p
@@ -188,7 +183,7 @@ module _ (m : Map) (parents sizes : List ℕ) (parts tablesEnd rowsEnd : ℕ) (c
             sym (ap (first_or 0) (from_p ∙ ap (λ (b : Bool). cond b (p ∷ keep (child_test m q) (count_from (suc p) (part_count m - suc p))) (keep (child_test m q) (count_from (suc p) (part_count m - suc p)))) e))
 
         by : Dec (q ≡ parent) → Dec (p ≡ 0) → word cs' q ≡ first_or 0 (keep (child_test m q) (count_from p (part_count m - p)))
-        by (yes same) (yes root) = absurd (omega (arith, in_room, long, ready.wide, same, parent_is, ready.root, ap (parent_of m) root))
+        by (yes same) (yes root) = absurd (omega (arith, in_room, long, same, parent_is, ready.root, ap (parent_of m) root))
         by (yes same) (no real) =
             ap (λ (l : List ℕ). word l q) adopts
             ∙ ap (word (set cs parent p)) same
@@ -218,14 +213,14 @@ module _ (m : Map) (sizes : List ℕ) (parts rowsEnd : ℕ) (given : Sized m siz
   unfolding first_row_of row_count
   rows_last = given.rows ∙ sym (rows_end m) ∙ ap (λ (k : ℕ). rows_at m + words_in_row * rows_below m k) (sym given.count)
 
-  pub rows_back : (p next size row row' : ℕ) → next ≡ p + 1 → p < parts → (word sizes p < 65536 → size ≡ word sizes p) → (words_in_row * size ≤ row → row' + words_in_row * size ≡ row) → row ≡ first_row_of m next → row' ≡ first_row_of m p
+  pub rows_back : (p next size row row' : ℕ) → next ≡ p + 1 → p < parts → size ≡ word sizes p → row' ≡ row - min (size * words_in_row) (2 ^ 32 - 1) → row ≡ first_row_of m next → row' ≡ first_row_of m p
   unfolding first_row_of rows_below
-  rows_back p next size row row' more some is-size back at =
+  rows_back p next size row row' more some is-size before at =
       let here : p < part_count m = omega (arith, given.count) in
-      let size_is : size ≡ size_of m p = is-size (omega (arith, given.shown p here, given.small p here)) ∙ given.shown p here in
+      let size_is : size ≡ size_of m p = is-size ∙ given.shown p here in
       let later : next ≡ suc p = omega arith in
       let one_on : first_row_of m next ≡ first_row_of m p + words_in_row * size = omega (arith, ap (first_row_of m) later, sum_last (size_of m) p, size_is) in
-      omega (arith, at, one_on, back (omega (arith, at, one_on)))
+      omega (arith, at, one_on, back (size * words_in_row) row row' (omega (arith, size_is, given.small p here)) (omega (arith, at, one_on)) before)
 
   pub rows_first : (row : ℕ) → row ≡ first_row_of m 0 → row ≡ rows_at m
   unfolding first_row_of rows_below

@@ -2,7 +2,7 @@
 -- Assumes nothing.
 use mathlib.Core.Path.{◌≡◌, refl, ap, ap₂, sym, subst, ◌∙◌}
 use mathlib.Core.Bool.{Bool, cond}
-use mathlib.Core.List.{List, [], ◌∷◌}
+use mathlib.Core.List.{List, ◌∷◌}
 use Prim.Native.Nat.{ℕ, suc, ◌+◌, ◌*◌, ◌≤◌, ◌<◌}
 use native.Mathlib.Decide.{ℕ_discrete}
 use native.Mathlib.Omega.{arith}
@@ -13,43 +13,25 @@ use Rattle.words.specs.Lists.{word, link}
 use Rattle.layout.specs.Layout.{words_in_road}
 use Rattle.roads.specs.Map.{Road, Map, road_count, road_at, no_road}
 use Rattle.image.specs.Places.{roads_at}
+use Rattle.counts.specs.declared.Counts.{Counts}
+use Rattle.places.specs.Place.{road_address}
 use Rattle.image.specs.Image.{ends_at}
 use Rattle.image.specs.Records.{road_record}
-use Rattle.maps.specs.Bytes.{field, road_shown}
+use Rattle.maps.specs.Bytes.{road_shown}
 use Rattle.records.specs.Written.{Written}
 use Rattle.records.proofs.Written.{written_none, written_down}
 use Rattle.opening_roads.specs.Roads.{road_words, RoadsReady, RoadsStand}
 
--- what is read of a road, and stored
-pub road_stored : (body ins ins' mem mem' : List ℕ) (i at number from to weight end next : ℕ) → number ≡ i → from ≡ field body (8 * number) 2 → to ≡ field body (8 * number + 2) 2
-    → weight ≡ field body (8 * number + 4) 4 → end ≡ to → next ≡ word ins end → mem' ≡ sets mem at (from ∷ to ∷ weight ∷ next ∷ []) → ins' ≡ set ins end (i + 1)
-    → (mem' ≡ sets mem at (road_words (road_shown body i) (word ins (road_shown body i).to))) × (ins' ≡ set ins (road_shown body i).to (i + 1))
-unfolding road_shown
-road_stored body ins ins' mem mem' i at number from to weight end next n f t w e l stored pushed =
-    (stored ∙ (λ k. sets mem at (first k ∷ second k ∷ third k ∷ linked k ∷ [])), pushed ∙ ap (λ (v : ℕ). set ins v (i + 1)) (e ∙ second))
-  where
-    first : from ≡ field body (8 * i) 2
-    first = f ∙ ap (λ (k : ℕ). field body (8 * k) 2) n
-
-    second : to ≡ field body (8 * i + 2) 2
-    second = t ∙ ap (λ (k : ℕ). field body (8 * k + 2) 2) n
-
-    third : weight ≡ field body (8 * i + 4) 4
-    third = w ∙ ap (λ (k : ℕ). field body (8 * k + 4) 4) n
-
-    linked : next ≡ word ins (field body (8 * i + 2) 2)
-    linked = l ∙ ap (word ins) (e ∙ second)
-
-module _ (m : Map) (body : List ℕ) (roads base : ℕ) (ins₀ mem₀ : List ℕ) (ready : RoadsReady m body roads base ins₀ mem₀) where
-  pub roads_none : RoadsStand m roads mem₀ ins₀ mem₀
+module _ (m : Map) (body : List ℕ) (counts : Counts) (ins₀ mem₀ : List ℕ) (ready : RoadsReady m body counts ins₀ mem₀) where
+  pub roads_none : RoadsStand m counts.roads mem₀ ins₀ mem₀
   roads_none =
       record {
-        records = subst (λ (k : ℕ). Written (roads_at m) words_in_road roads k (road_record m) mem₀ mem₀) ready.count (written_none (roads_at m) words_in_road (road_record m) roads mem₀);
-        links = λ v h. ready.none v h ∙ ap (link (ends_at v) roads) (sym (drop_of_length-le m.roads (let all : road_count m ≤ roads = omega (arith, ready.count) in all)));
+        records = subst (λ (k : ℕ). Written (roads_at m) words_in_road counts.roads k (road_record m) mem₀ mem₀) ready.count (written_none (roads_at m) words_in_road (road_record m) counts.roads mem₀);
+        links = λ v h. ready.none v h ∙ ap (link (ends_at v) counts.roads) (sym (drop_of_length-le m.roads (let all : road_count m ≤ counts.roads = omega (arith, ready.count) in all)));
       }
 
-  module _ (i next : ℕ) (ins ins' mem mem' : List ℕ) (more : next ≡ i + 1) (some : i < roads) (long : length ins ≡ length ins₀) (old : RoadsStand m next mem₀ ins mem)
-      (stored : mem' ≡ sets mem (base + words_in_road * i) (road_words (road_shown body i) (word ins (road_shown body i).to))) (pushed : ins' ≡ set ins (road_shown body i).to (i + 1)) where
+  module _ (i next at : ℕ) (ins ins' mem mem' : List ℕ) (more : next ≡ i + 1) (some : i < counts.roads) (long : length ins ≡ length ins₀) (old : RoadsStand m next mem₀ ins mem)
+      (place : at ≡ road_address counts i) (stored : mem' ≡ sets mem at (road_words (road_shown body i) (word ins (road_shown body i).to))) (pushed : ins' ≡ set ins (road_shown body i).to (i + 1)) where
     here : i < road_count m
     here = omega (arith, ready.count)
 
@@ -102,6 +84,6 @@ module _ (m : Map) (body : List ℕ) (roads base : ℕ) (ins₀ mem₀ : List �
         record {
           records =
               written_down (roads_at m) words_in_road (road_record m) i next (road_count m) mem₀ mem mem' more here sized (omega (arith, ready.room, old.records.long)) old.records
-              (stored ∙ ap₂ (λ (k : ℕ) (l : List ℕ). sets mem (k + words_in_road * i) l) ready.start same_record);
+              (stored ∙ ap₂ (sets mem) (place ∙ ap (λ (k : ℕ). k + words_in_road * i) ready.start) same_record);
           links = links_now;
         }

@@ -2,44 +2,35 @@
 // and each is put in front of the roads into the same vertex that come after it.
 #![tactic(auto)]
 
-ghost use Rattle.std.specs.Prelude.{◌≡◌, ◌+◌, ◌<◌, ◌≤◌, set};
+ghost use Rattle.std.specs.Prelude.{◌≡◌, ◌+◌, ◌<◌, set};
 ghost use Rattle.std.proofs.lemmas.List.Edits.{sets};
-ghost use Rattle.words.specs.Limits.{most_roads};
 ghost use Rattle.words.specs.Lists.{word};
 ghost use Rattle.roads.specs.Map.{Map};
 ghost use Rattle.maps.specs.Bytes.{road_shown};
 ghost use Rattle.opening_roads.specs.Roads.{road_words, RoadsReady, RoadsStand};
 
-use cells::{put, wide, word};
-use layout::RoadRecord;
-use map_bytes::{number2, number4};
-use records::put4;
+use cells::{put, word};
+use map_parts::ShownMap;
+use map_roads::Road;
+use places::road_at;
+use records::put_words;
 
-const ROAD_WORDS: u32 = RoadRecord::WORDS as u32;
-
-fn write_road(body: &[u8], i: u32, at: u32, ins: &mut [u32], mem: &mut [u32])
-    requires { i < most_roads }
+fn write_road(body: &[u8], i: u32, at: usize, ins: &mut [u32], mem: &mut [u32])
+    requires { i < 4294967295 }
     ensures { (mem.new ≡ sets mem.old at (road_words (road_shown body.now i) (word ins.old (road_shown body.now i).to))) × (ins.new ≡ set ins.old (road_shown body.now i).to (i + 1)) }
 {
-    let start = 8 * wide(i);
-    let from = number2(body, start);
-    let to = number2(body, start + 2);
-    let weight = number4(body, start + 4);
-    let end = wide(to);
+    let road = Road::read(body, i);
+    let end = road.to as usize;
     let next = word(ins, end);
-    put4(mem, at, from, to, weight, next);
+    put_words(mem, at, [road.from, road.to, road.weight, next]);
     put(ins, end, i + 1);
 }
 
-// The roads of a map whose section starts at `base`; `ins`, all 0 before, has a word for each vertex.
-pub fn write_roads(body: &[u8], roads: u32, base: u32, ins: &mut [u32], mem: &mut [u32])
-    requires { (roads ≤ most_roads) × (base ≤ 65536) }
-    ensures { (m : Map) → RoadsReady m body.now roads base ins.old mem.old → RoadsStand m 0 mem.old ins.new mem.new }
+// The roads of the map; `ins`, all 0 before, has a word for each vertex.
+pub fn write_roads(shown: &ShownMap, ins: &mut [u32], mem: &mut [u32])
+    ensures { (m : Map) → RoadsReady m shown.now.body.now shown.now.counts ins.old mem.old → RoadsStand m 0 mem.old ins.new mem.new }
 {
-    let mut next = roads;
-    while 0 < next {
-        let i = next - 1;
-        write_road(body, i, base + ROAD_WORDS * i, ins, mem);
-        next = i;
+    for i in (0..shown.counts.roads).rev() {
+        write_road(shown.body, i, road_at(shown.counts, i), ins, mem);
     }
 }

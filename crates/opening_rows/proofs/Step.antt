@@ -1,14 +1,14 @@
 -- One row more; one vertex more.
 -- Assumes nothing.
-use Rattle.std.proofs.Common.{◌≡◌, ℕ, suc, ◌+◌, ◌-◌, ◌*◌, ◌%◌, ◌^◌, ◌<◌, ◌≤◌, Bool, true, false, cond, ◌&&◌, ltb, leb, ◌≢◌, ◌⊎◌, List, [], ◌∷◌, length, set, sym, refl, ap, ◌∙◌, subst, ap₂, inl, inr, true≢false, arith, length-set, get_or-set_other, get_or-set_same, le-ltb, lt-ltb, le-leb}
+use Rattle.std.proofs.Common.{◌≡◌, ℕ, suc, ◌+◌, ◌*◌, ◌%◌, ◌^◌, ◌<◌, ◌≤◌, Bool, true, false, cond, ◌&&◌, ltb, leb, ◌≢◌, ◌⊎◌, List, length, set, sym, refl, ap, ◌∙◌, subst, ap₂, inl, inr, true≢false, arith, length-set, get_or-set_other, get_or-set_same, le-ltb, lt-ltb, le-leb}
 use native.Mathlib.Decide.{ℕ_discrete, dec_lt}
 use lib.Seq.{sets, length-sets}
 use borrow.Author.Tests.{lt-leb}
-use Rattle.words.specs.Limits.{most_parts, NONE, FAR}
+use Rattle.words.specs.Limits.{most_parts}
 use Rattle.words.specs.Lists.{word}
 use Rattle.words.proofs.Tests.{true_or_false}
 use Rattle.words.proofs.Stores.{stored_in, stored_out}
-use Rattle.layout.specs.Layout.{rows_in_part, words_in_vertex, itself_in_vertex, words_in_row, child_in_row, part_word}
+use Rattle.layout.specs.Layout.{itself_in_vertex, words_in_row, child_in_row}
 use Rattle.roads.specs.Map.{Map, part_count}
 use Rattle.roads.proofs.Trail.{Net}
 use Rattle.parts.specs.Tree.{parent_of, leaf_of, holds}
@@ -19,19 +19,12 @@ use Rattle.maps.proofs.Distances.{sound_net, sound_tree}
 use Rattle.image.specs.Places.{itself_at, first_row_of, row_at}
 use Rattle.image.specs.Image.{part_below, row_below}
 use Rattle.opening_fresh.specs.Fresh.{fresh_row}
+use Rattle.counts.specs.declared.Counts.{Counts}
+use Rattle.places.specs.Place.{vertex_address}
+use Rattle.opening_rows.specs.declared.Vertex.{Vertex}
 use Rattle.opening_rows.specs.Rows.{has_row, row_place, row_words, RowWritten, Standing, RowsStand, FirstRows, RowsReady}
 use Rattle.opening_rows.proofs.Places.{place_first, place_row, place_within, place_next, place_left, place_rises, part_rises, part_from, part_to}
 use Rattle.opening_rows.proofs.Way.{row_in_leaf, leaf_below, below_small, row_holds, no_later, row_part, parent_lower, parent_row, parent_holds, parent_below, no_more}
-
--- the stores of `write_row`
-pub row_stored : (mem mem' cursors cursors' : List ℕ) (part v child below place at tag next : ℕ) → place ≡ part → at ≡ word cursors place → (v < child_in_row → child < child_in_row → tag ≡ v + child_in_row * child)
-    → mem' ≡ sets mem at (NONE ∷ FAR ∷ tag ∷ below ∷ []) → next ≡ (at + words_in_row) % 2 ^ 32 → cursors' ≡ set cursors place next → RowWritten mem cursors part v child below at mem' cursors'
-row_stored mem mem' cursors cursors' part v child below place at tag next p a t s n e =
-    record {
-      place = a ∙ ap (word cursors) p;
-      stored = λ hv hc. s ∙ ap (λ (x : ℕ). sets mem at (NONE ∷ FAR ∷ x ∷ below ∷ [])) (t hv hc);
-      next = e ∙ ap₂ (λ (i x : ℕ). set cursors i x) p n;
-    }
 
 -- A part in which v has no row is written as it is.
 pub rest_same : (m : Map) (v : ℕ) (rest rest' : ℕ → Bool) (start cursors mem : List ℕ) → ((q : ℕ) → q < part_count m → (rest q ≡ rest' q) ⊎ (has_row m q v ≡ false)) → RowsStand m v rest start cursors mem
@@ -154,15 +147,27 @@ abbrev pub left_from : Map → ℕ → ℕ → ℕ → Bool
 left_from m v p q = has_row m q v && leb q p
 
 -- The loop's state at part p on the way up: the rows of v further up are left to write, that in p first.
-pub record Climbing (m : Map) (v part child below left : ℕ) (start cursors mem : List ℕ) : Type 0 where
+pub record Climbing (m : Map) (v part child below turn : ℕ) (start cursors mem : List ℕ) : Type 0 where
   pub rows : RowsStand m v (left_from m v part) start cursors mem
   pub inside : holds m part v ≡ true
   pub has : has_row m part v ≡ true
   pub child_is : child ≡ part_below m part v
   pub below_is : below ≡ row_below m part v
-  pub fuel : part < left
+  pub fuel : part + turn < most_parts
 
-module _ (m : Map) (parents : List ℕ) (leaf lift v itself : ℕ) (st : Standing m parents leaf lift v itself) where
+module _ (m : Map) (parents : List ℕ) (vertex : Vertex) (st : Standing m parents vertex) where
+  abbrev v : ℕ
+  v = vertex.number
+
+  abbrev leaf : ℕ
+  leaf = vertex.leaf
+
+  abbrev lift : ℕ
+  lift = vertex.lift
+
+  abbrev itself : ℕ
+  itself = vertex.itself
+
   net : Net m
   net = sound_net m st.sound
 
@@ -170,7 +175,7 @@ module _ (m : Map) (parents : List ℕ) (leaf lift v itself : ℕ) (st : Standin
   tree = sound_tree m st.sound
 
   hv : v < m.vertices
-  hv = st.vertex
+  hv = st.exists
 
   few : part_count m ≤ most_parts
   few = st.sound.parts.1
@@ -178,9 +183,9 @@ module _ (m : Map) (parents : List ℕ) (leaf lift v itself : ℕ) (st : Standin
   leaf_in : leaf < part_count m
   leaf_in = omega (arith, st.leaf_is, tree.leaf_part v hv)
 
-  pub climbing_start : (start cursors mem : List ℕ) → RowsStand m v (λ q. true) start cursors mem → Climbing m v leaf 0 itself most_parts start cursors mem
+  pub climbing_start : (start cursors mem : List ℕ) → RowsStand m v (λ q. true) start cursors mem → Climbing m v leaf 0 itself 0 start cursors mem
   climbing_start start cursors mem s =
-      subst (λ (k : ℕ). Climbing m v k 0 itself most_parts start cursors mem) (sym st.leaf_is)
+      subst (λ (k : ℕ). Climbing m v k 0 itself 0 start cursors mem) (sym st.leaf_is)
       (record {
         rows = rest_same m v (λ q. true) (left_from m v (leaf_of m v)) start cursors mem (λ q h. by q (true_or_false (has_row m q v))) s;
         inside = in_own_leaf m v hv;
@@ -194,7 +199,7 @@ module _ (m : Map) (parents : List ℕ) (leaf lift v itself : ℕ) (st : Standin
       by q (inl e) = inl (sym (ap (λ (b : Bool). b && leb q (leaf_of m v)) e ∙ le-leb q (leaf_of m v) (row_part m net tree v hv q e)))
       by q (inr e) = inr e
 
-  module _ (part child below left r : ℕ) (start cursors cursors' mem mem' : List ℕ) (c : Climbing m v part child below left start cursors mem)
+  module _ (part child below turn r : ℕ) (start cursors cursors' mem mem' : List ℕ) (c : Climbing m v part child below turn start cursors mem)
       (w : RowWritten mem cursors part v child below r mem' cursors') where
     part_in : part < part_count m
     part_in = omega (arith, row_part m net tree v hv part c.has, tree.leaf_part v hv)
@@ -231,9 +236,9 @@ module _ (m : Map) (parents : List ℕ) (leaf lift v itself : ℕ) (st : Standin
         by q (inr e) d = inr e
 
     -- below it, the parent is next
-    pub climbing_more : (part' : ℕ) → lift < part → part' ≡ word parents part → Climbing m v part' part r (left - 1) start cursors' mem'
+    pub climbing_more : (part' : ℕ) → lift < part → part' ≡ word parents part → Climbing m v part' part r (turn + 1) start cursors' mem'
     climbing_more part' high is-parent =
-        subst (λ (k : ℕ). Climbing m v k part r (left - 1) start cursors' mem') (sym (is-parent ∙ st.parents_shown part part_in))
+        subst (λ (k : ℕ). Climbing m v k part r (turn + 1) start cursors' mem') (sym (is-parent ∙ st.parents_shown part part_in))
         (record {
           rows = rest_same m v (λ q. has_row m q v && ltb q part) (left_from m v (parent_of m part)) start cursors' mem' (λ q h. by q (true_or_false (has_row m q v)) (dec_lt q part)) written;
           inside = parent_holds m net tree v hv lift st.lift_is part c.inside high;
@@ -261,52 +266,31 @@ module _ (m : Map) (parents : List ℕ) (leaf lift v itself : ℕ) (st : Standin
         by q (inl e) (no more) = inl (ap (λ (b : Bool). has_row m q v && b) (le-ltb q part (omega (arith, more)) ∙ sym (lt-leb q (parent_of m part) (omega (arith, more, lower)))))
         by q (inr e) d = inr e
 
--- The first rows of the parts below p are read.
-pub first_none : (mem cursors : List ℕ) → FirstRows mem 0 cursors cursors
-first_none mem cursors = record { long = refl; first = λ p h k. absurd (omega arith) }
-
-pub first_more : (mem start cursors cursors' : List ℕ) (p at x : ℕ) → FirstRows mem p start cursors → at ≡ p → x ≡ part_word mem p rows_in_part → cursors' ≡ set cursors at x
-    → FirstRows mem (p + 1) start cursors'
-first_more mem start cursors cursors' p at x f a e s =
-    record { long = ap length s ∙ length-set cursors at x ∙ f.long; first = λ q h k. by q k (omega arith) (ℕ_discrete q p) }
-  where
-    stored : cursors' ≡ set cursors p (part_word mem p rows_in_part)
-    stored = s ∙ ap₂ (λ (i y : ℕ). set cursors i y) a e
-
-    by : (q : ℕ) → q < length start → q < p + 1 → Dec (q ≡ p) → word cursors' q ≡ part_word mem q rows_in_part
-    by q k h (yes same) =
-        ap₂ (λ (l : List ℕ) (i : ℕ). word l i) stored same
-        ∙ get_or-set_same cursors p (part_word mem p rows_in_part) 0 (omega (arith, f.long))
-        ∙ ap (λ (i : ℕ). part_word mem i rows_in_part) (sym same)
-    by q k h (no other) =
-        ap (λ (l : List ℕ). word l q) stored
-        ∙ get_or-set_other cursors p q (part_word mem p rows_in_part) 0 other
-        ∙ f.first q (omega (arith, other)) k
-
 -- Before the first vertex, each part's next place is its first.
-module _ (m : Map) (parents leaves lifts : List ℕ) (vertices base : ℕ) (cursors mem : List ℕ) (ready : RowsReady m parents leaves lifts vertices base cursors mem) where
-  pub rows_none : RowsStand m 0 (λ q. true) mem cursors mem
-  rows_none =
+module _ (m : Map) (parents leaves lifts : List ℕ) (counts : Counts) (mem : List ℕ) (ready : RowsReady m parents leaves lifts counts mem) where
+  pub rows_none : (cursors : List ℕ) → FirstRows mem counts.parts cursors → RowsStand m 0 (λ q. true) mem cursors mem
+  rows_none cursors read =
       record {
         long = refl;
         room = ready.room;
-        wide = ready.wide;
-        cursor = λ q h. ready.first q h ∙ sym (place_first m q);
+        wide = read.wide;
+        cursor = λ q h. read.first q (omega (arith, h, ready.part_count_lem)) (omega (arith, h, ready.sound.parts.1)) ∙ ready.first q h ∙ sym (place_first m q);
         right = λ q u w h below e hw. absurd (omega arith);
         kept = λ i h. refl;
       }
 
-  pub standing : (v leaf lift itself : ℕ) → v < vertices → leaf ≡ word leaves v → lift ≡ word lifts v → itself ≡ base + words_in_vertex * v + itself_in_vertex → Standing m parents leaf lift v itself
+  pub standing : (vertex : Vertex) → vertex.number < counts.vertices → vertex.leaf ≡ word leaves vertex.number → vertex.lift ≡ word lifts vertex.number → vertex.itself ≡ vertex_address counts vertex.number + itself_in_vertex
+      → Standing m parents vertex
   unfolding itself_at
-  standing v leaf lift itself h l f i =
-      let hv : v < m.vertices = omega (arith, ready.count) in
+  standing vertex h l f i =
+      let hv : vertex.number < m.vertices = omega (arith, ready.count) in
       record {
         sound = ready.sound;
         small = ready.small;
         parents_shown = ready.parents_shown;
-        vertex = hv;
-        leaf_is = l ∙ ready.leaves_shown v hv;
-        lift_is = λ c hc. ready.lifts_shown v c hv hc ∙ ap (λ (k : ℕ). holds m c v && ltb k c) (sym f);
+        exists = hv;
+        leaf_is = l ∙ ready.leaves_shown vertex.number hv;
+        lift_is = λ c hc. ready.lifts_shown vertex.number c hv hc ∙ ap (λ (k : ℕ). holds m c vertex.number && ltb k c) (sym f);
         itself_is = omega (arith, i, ready.begins);
       }
 

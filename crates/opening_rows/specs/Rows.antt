@@ -4,15 +4,17 @@ use Rattle.std.proofs.lemmas.List.Edits.{sets}
 use Rattle.words.specs.Limits.{most_parts, NONE, FAR}
 use Rattle.words.specs.Lists.{word, any}
 use Rattle.words.specs.Ranks.{rank}
-use Rattle.layout.specs.Layout.{rows_in_part, words_in_row, child_in_row, part_word}
+use Rattle.layout.specs.Layout.{rows_in_part, words_in_row, child_in_row, vertices_from, part_word}
 use Rattle.roads.specs.Map.{Map, part_count}
 use Rattle.parts.specs.Tree.{leaf_of, holds, children, is_leaf}
 use Rattle.parts.specs.Border.{boundary}
 use Rattle.parts.specs.Size.{need}
 use Rattle.maps.specs.Sound.{Sound}
 use Rattle.image.specs.Places.{vertices_at, rows_at, itself_at, first_row_of}
+use Rattle.counts.specs.declared.Counts.{Counts}
 use Rattle.map_shown.specs.Shown.{ShowsParents, ShowsLeaves, ShowsLifts}
 use Rattle.opening_fresh.specs.Fresh.{fresh_row}
+use Rattle.opening_rows.specs.declared.Vertex.{Vertex}
 
 -- vertex v has a row in part p: it stands in the leaf, or is a border
 unfoldable pub has_row : Map → ℕ → ℕ → Bool
@@ -32,15 +34,15 @@ pub record RowWritten (mem cursors : List ℕ) (part v child below r : ℕ) (mem
   pub stored : v < child_in_row → child < child_in_row → mem' ≡ sets mem r (row_words v child below)
   pub next : cursors' ≡ slice_set cursors part ((r + words_in_row) % 2 ^ 32)
 
--- what is known of vertex v
-pub record Standing (m : Map) (parents : List ℕ) (leaf lift v itself : ℕ) : Type 0 where
+-- what is known of a vertex
+pub record Standing (m : Map) (parents : List ℕ) (vertex : Vertex) : Type 0 where
   pub sound : Sound m
   pub small : need m < 2 ^ 32
   pub parents_shown : ShowsParents m parents
-  pub vertex : v < m.vertices
-  pub leaf_is : leaf ≡ leaf_of m v
-  pub lift_is : (c : ℕ) → c < part_count m → boundary m c v ≡ (holds m c v && nat_lt lift c)
-  pub itself_is : itself ≡ itself_at m v
+  pub exists : vertex.number < m.vertices
+  pub leaf_is : vertex.leaf ≡ leaf_of m vertex.number
+  pub lift_is : (c : ℕ) → c < part_count m → boundary m c vertex.number ≡ (holds m c vertex.number && nat_lt vertex.lift c)
+  pub itself_is : vertex.itself ≡ itself_at m vertex.number
 
 -- The rows of the vertices below v are written, and the row of v in each part but those of `rest`; `cursors` has each part's next place.
 pub record RowsStand (m : Map) (v : ℕ) (rest : ℕ → Bool) (start cursors mem : List ℕ) : Type 0 where
@@ -51,20 +53,25 @@ pub record RowsStand (m : Map) (v : ℕ) (rest : ℕ → Bool) (start cursors me
   pub right : (q u w : ℕ) → q < part_count m → u < cond (rest q) v (suc v) → has_row m q u ≡ true → w < words_in_row → word mem (row_place m q u + w) ≡ word (fresh_row m q u) w
   pub kept : (i : ℕ) → i < rows_at m → word mem i ≡ word start i
 
--- where the rows of the parts start
-pub record FirstRows (mem : List ℕ) (parts : ℕ) (cursors cursors' : List ℕ) : Type 0 where
-  pub long : length cursors' ≡ length cursors
-  pub first : (p : ℕ) → p < parts → p < length cursors → word cursors' p ≡ part_word mem p rows_in_part
+-- the rows of all vertices are written
+pub record RowsDone (m : Map) (before after : List ℕ) : Type 0 where
+  pub cursors : List ℕ
+  pub rows : RowsStand m m.vertices (λ q. true) before cursors after
 
--- what is lent shows the vertices and parts of m and has room for its rows
-pub record RowsReady (m : Map) (parents leaves lifts : List ℕ) (vertices base : ℕ) (cursors mem : List ℕ) : Type 0 where
+-- where the rows of the parts below `parts` start
+pub record FirstRows (mem : List ℕ) (parts : ℕ) (cursors : List ℕ) : Type 0 where
+  pub wide : length cursors ≡ most_parts
+  pub first : (p : ℕ) → p < parts → p < most_parts → word cursors p ≡ part_word mem p rows_in_part
+
+-- what is lent shows the vertices and parts of m, whose records stand, and has room for its rows
+pub record RowsReady (m : Map) (parents leaves lifts : List ℕ) (counts : Counts) (mem : List ℕ) : Type 0 where
   pub sound : Sound m
   pub small : need m < 2 ^ 32
-  pub count : vertices ≡ m.vertices
-  pub begins : base ≡ vertices_at m
+  pub count : counts.vertices ≡ m.vertices
+  pub part_count_lem : counts.parts ≡ part_count m
+  pub begins : vertices_from counts.parts ≡ vertices_at m
   pub parents_shown : ShowsParents m parents
   pub leaves_shown : ShowsLeaves m leaves
   pub lifts_shown : ShowsLifts m lifts
-  pub wide : length cursors ≡ most_parts
-  pub first : (p : ℕ) → p < part_count m → word cursors p ≡ first_row_of m p
+  pub first : (p : ℕ) → p < part_count m → part_word mem p rows_in_part ≡ first_row_of m p
   pub room : need m ≤ length mem

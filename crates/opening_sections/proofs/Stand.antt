@@ -15,7 +15,7 @@ use Rattle.words.proofs.Sums.{in_record}
 use Rattle.words.proofs.Stores.{stored_join}
 use Rattle.words.proofs.Places.{entry_in, place_of_entry}
 use Rattle.words.proofs.Lists.{keep_says}
-use Rattle.layout.specs.Layout.{words_in_part, rows_in_part, words_in_vertex, words_in_road, words_in_van, words_in_row, parts_at, vertices_from, vans_from, part_at, part_word}
+use Rattle.layout.specs.Layout.{words_in_part, rows_in_part, words_in_vertex, words_in_road, words_in_van, words_in_row, parts_at, vertices_from, part_at, part_word}
 use Rattle.roads.specs.Map.{Map, part_count, road_count}
 use Rattle.parts.specs.Size.{row_vertices, size_of, need}
 use Rattle.parts.proofs.Rows.{row_vertex_lem, rows_unique}
@@ -28,22 +28,23 @@ use Rattle.image.proofs.Records.{vertices_start, roads_start, vans_start, tables
 use Rattle.records.specs.Cleared.{cleared}
 use Rattle.records.specs.Agrees.{Agrees}
 use Rattle.records.proofs.Agrees.{agrees_join, agrees_within, written_agrees, written_kept, stored_agrees, cleared_agrees, cleared_kept}
+use Rattle.counts.specs.declared.Counts.{Counts}
+use Rattle.places.specs.Place.{van_address}
+use Rattle.map_parts.specs.declared.shown.ShownMap.{ShownMap}
+use Rattle.map_borders.specs.declared.Measures.{Measures}
 use Rattle.opening_fresh.specs.Fresh.{fresh_vertex}
 use Rattle.opening_fresh.proofs.Fresh.{fresh_slots, fresh_count, fresh_vertex_lem, fresh_row_lem, fresh_van}
 use Rattle.opening_parts.specs.Parts.{PartsStand}
-use Rattle.opening_rows.specs.Rows.{has_row, row_place}
+use Rattle.opening_rows.specs.Rows.{has_row, row_place, RowsDone}
 use Rattle.opening_rows.proofs.Places.{rows_kept, place_row}
-use Rattle.opening_sections.specs.Sections.{MapShown, NetStands, RowsDone, Sections}
+use Rattle.opening_sections.specs.Sections.{MapShown, NetStands, Sections}
 
 -- the stores of `write_head`
-pub head_stored : (mem p q r : List ℕ) (used vertices roads parts start : ℕ) → p ≡ sets mem 0 (20481 ∷ used ∷ vertices ∷ roads ∷ []) → q ≡ sets p 4 (parts ∷ start ∷ 0 ∷ 0 ∷ []) → r ≡ cleared q 8 56
-    → r ≡ sets mem 0 (head_record used vertices roads parts start)
+pub head_stored : (mem p q : List ℕ) (used vertices roads parts start : ℕ) → p ≡ sets mem 0 (20481 ∷ used ∷ vertices ∷ roads ∷ parts ∷ start ∷ []) → q ≡ cleared p 6 58
+    → q ≡ sets mem 0 (head_record used vertices roads parts start)
 unfolding cleared
-head_stored mem p q r used vertices roads parts start e f g =
-    g
-    ∙ ap (λ (l : List ℕ). sets l 8 (replicate 56 0)) (f ∙ ap (λ (l : List ℕ). sets l 4 (parts ∷ start ∷ 0 ∷ 0 ∷ [])) e)
-    ∙ ap (λ (l : List ℕ). sets l 8 (replicate 56 0)) (stored_join mem 0 (20481 ∷ used ∷ vertices ∷ roads ∷ []) (parts ∷ start ∷ 0 ∷ 0 ∷ []))
-    ∙ stored_join mem 0 (20481 ∷ used ∷ vertices ∷ roads ∷ parts ∷ start ∷ 0 ∷ 0 ∷ []) (replicate 56 0)
+head_stored mem p q used vertices roads parts start e f =
+    f ∙ ap (λ (l : List ℕ). sets l 6 (replicate 58 0)) e ∙ stored_join mem 0 (20481 ∷ used ∷ vertices ∷ roads ∷ parts ∷ start ∷ []) (replicate 58 0)
 
 module _ (m : Map) (start : ℕ) where
   abbrev target : List ℕ
@@ -97,23 +98,26 @@ module _ (m : Map) (start : ℕ) where
       (cleared_agrees target c d (vans_at m) n e (omega (arith, tables_start m, all)) (λ j h. van_none j (omega (arith, all)))))
 
   -- the sections before the tables
-  module _ (parents leaves body lifts sizes : List ℕ) (vertices roads parts used : ℕ) (shown : MapShown m parents leaves body lifts sizes vertices roads parts used) where
-    pub front_stands : (mem a b c d : List ℕ) (n : ℕ) → length mem ≡ used → a ≡ sets mem 0 (head_record used vertices roads parts start) → PartsStand m 0 a b → NetStands m b c
-        → n ≡ words_in_van * vans → d ≡ cleared c (vans_from parts vertices roads) n → Agrees target 0 (tables_at m) d
-    front_stands mem a b c d n long e w net all f =
-        vans_agree c d n all (f ∙ ap (λ (k : ℕ). cleared c k n) here) (omega (arith, same_length, shown.counted.need_is, rows_end m, rows_start m))
-        (net_agrees b c net
-        (parts_agree a b w (head_agrees mem a (e ∙ ap (sets mem 0) (same_head ∙ head_is)) (omega (arith, long, shown.counted.need_is, rows_end m, rows_start m, tables_start m)))))
-      where
-        here : vans_from parts vertices roads ≡ vans_at m
-        here = omega (arith, vans_start m, roads_start m, shown.counted.part_count_lem, shown.counted.vertex_count_lem, shown.counted.road_count_lem)
+  module _ (shown : ShownMap) (measures : Measures) (used : ℕ) (is : MapShown m shown measures used) where
+    abbrev counts : Counts
+    counts = shown.counts
 
-        same_head : head_record used vertices roads parts start ≡ head_record (need m) m.vertices (road_count m) (part_count m) start
-        same_head = (λ i. head_record (shown.counted.need_is i) (shown.counted.vertex_count_lem i) (shown.counted.road_count_lem i) (shown.counted.part_count_lem i) start)
+    pub front_stands : (mem a b c d : List ℕ) (at n : ℕ) → length mem ≡ used → a ≡ sets mem 0 (head_record used counts.vertices counts.roads counts.parts start) → PartsStand m 0 a b → NetStands m b c
+        → at ≡ van_address counts 0 → n ≡ words_in_van * vans → d ≡ cleared c at n → Agrees target 0 (tables_at m) d
+    front_stands mem a b c d at n long e w net place all f =
+        vans_agree c d n all (f ∙ ap (λ (k : ℕ). cleared c k n) here) (omega (arith, same_length, is.counted.need_is, rows_end m, rows_start m))
+        (net_agrees b c net
+        (parts_agree a b w (head_agrees mem a (e ∙ ap (sets mem 0) (same_head ∙ head_is)) (omega (arith, long, is.counted.need_is, rows_end m, rows_start m, tables_start m)))))
+      where
+        here : at ≡ vans_at m
+        here = omega (arith, place, vans_start m, roads_start m, is.counted.part_count_lem, is.counted.vertex_count_lem, is.counted.road_count_lem)
+
+        same_head : head_record used counts.vertices counts.roads counts.parts start ≡ head_record (need m) m.vertices (road_count m) (part_count m) start
+        same_head = (λ i. head_record (is.counted.need_is i) (is.counted.vertex_count_lem i) (is.counted.road_count_lem i) (is.counted.part_count_lem i) start)
 
         same_length : length c ≡ used
         same_length =
-            net.vertices.long ∙ net.roads.long ∙ w.long ∙ ap length e ∙ length-sets mem 0 (head_record used vertices roads parts start) ∙ long
+            net.vertices.long ∙ net.roads.long ∙ w.long ∙ ap length e ∙ length-sets mem 0 (head_record used counts.vertices counts.roads counts.parts start) ∙ long
 
   -- the parts show where their rows begin
   pub first_row_stands : (d : List ℕ) → Agrees target 0 (tables_at m) d → (p : ℕ) → p < part_count m → part_word d p rows_in_part ≡ first_row_of m p

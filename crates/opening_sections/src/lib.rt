@@ -1,139 +1,56 @@
 // All sections of the memory of an accepted map but the distance tables: each by its own function, in words that no other writes.
 #![tactic(auto)]
 
-ghost use Rattle.std.specs.Prelude.{◌≡◌, List, ℕ, ◌+◌, ◌*◌, ◌<◌, ◌≤◌, length};
+ghost use Rattle.std.specs.Prelude.{◌≡◌, ℕ, length};
 ghost use Rattle.std.proofs.lemmas.List.Edits.{sets};
-ghost use Rattle.words.specs.Limits.{most_vertices, most_roads, most_parts};
-ghost use Rattle.layout.specs.Layout.{rows_in_part, part_word};
-ghost use Rattle.roads.specs.Map.{Map, part_count};
-ghost use Rattle.image.specs.Places.{first_row_of};
+ghost use Rattle.roads.specs.Map.{Map};
 ghost use Rattle.image.specs.Image.{head_record};
-ghost use Rattle.opening_parts.specs.Parts.{PartsStand};
-ghost use Rattle.opening_sections.specs.Sections.{MapShown, NetStands, RowsDone, Sections};
+ghost use Rattle.map_borders.specs.declared.Measures.{Measures};
+ghost use Rattle.opening_sections.specs.Sections.{MapShown, NetStands, Sections};
 
 use counts::Counts;
-use layout::{HeadRecord, PartRecord, RoadRecord, VanRecord, VertexRecord};
-use opening_parts::{rows_begin, write_parts};
+use layout::{HeadRecord, VanRecord};
+use map_borders::Measures;
+use map_parts::ShownMap;
+use opening_parts::write_parts;
 use opening_roads::write_roads;
-use opening_rows::{first_rows, write_rows};
+use opening_rows::write_rows;
 use opening_vertices::write_vertices;
-use records::{clear, put4};
+use places::van_at;
+use records::{clear, put_words};
 
-const HEAD_WORDS: u32 = HeadRecord::WORDS as u32;
+const ALL_VAN_WORDS: usize = VanRecord::WORDS * VanRecord::VANS as usize;
 
-// The head's words after the first eight.
-const HEAD_ROOM: u32 = HEAD_WORDS - 8;
-
-const PART_WORDS: u32 = PartRecord::WORDS as u32;
-
-const VERTEX_WORDS: u32 = VertexRecord::WORDS as u32;
-
-const ROAD_WORDS: u32 = RoadRecord::WORDS as u32;
-
-const ALL_VAN_WORDS: u32 = VanRecord::WORDS as u32 * VanRecord::VANS;
-
-// Mark, words used, vertices, roads, parts, change count.
+// Mark, words used, vertices, roads, parts, change count; the head's other words are 0.
 fn write_head(mem: &mut [u32], used: u32, counts: Counts, start: u32)
     ensures { mem.new ≡ sets mem.old 0 (head_record used counts.vertices counts.roads counts.parts start) }
 {
-    put4(
-        mem,
-        0,
-        HeadRecord::OPENED,
-        used,
-        counts.vertices,
-        counts.roads,
-    );
-    put4(mem, 4, counts.parts, start, 0, 0);
-    clear(mem, 8, HEAD_ROOM);
-}
-
-fn write_part_section(parents: &[u32], sizes: &[u32], parts: u32, used: u32, mem: &mut [u32])
-    requires { parts ≤ most_parts }
-    ensures { (m : Map) (leaves body lifts : List ℕ) (vertices roads : ℕ) → MapShown m parents.now leaves body lifts sizes.now vertices roads parts used → length mem.old ≡ used → PartsStand m 0 mem.old mem.new }
-{
-    let tables_end = rows_begin(sizes, parts, used);
-    let mut children: [u32; 512] = [0; 512];
-    write_parts(parents, sizes, parts, tables_end, used, &mut children, mem);
+    let Counts {
+        vertices,
+        roads,
+        parts,
+    } = counts;
+    let shown = [HeadRecord::OPENED, used, vertices, roads, parts, start];
+    put_words(mem, 0, shown);
+    clear(mem, shown.len(), HeadRecord::WORDS - shown.len());
 }
 
 // The roads and the vertices, which show the first road into each.
-fn write_net(leaves: &[u32], body: &[u8], vertices: u32, roads: u32, parts: u32, mem: &mut [u32])
-    requires { (vertices ≤ most_vertices) × (roads ≤ most_roads) × (parts ≤ most_parts) }
-    ensures { (m : Map) (parents lifts sizes : List ℕ) (used : ℕ) → MapShown m parents leaves.now body.now lifts sizes vertices roads parts used → length mem.old ≡ used → NetStands m mem.old mem.new }
+fn write_net(shown: &ShownMap, mem: &mut [u32])
+    ensures { (m : Map) (measures : Measures) (used : ℕ) → MapShown m shown.now measures used → length mem.old ≡ used → NetStands m mem.old mem.new }
 {
-    let vertices_at = HEAD_WORDS + PART_WORDS * parts;
     let mut ins: [u32; 4096] = [0; 4096];
-    write_roads(
-        body,
-        roads,
-        vertices_at + VERTEX_WORDS * vertices,
-        &mut ins,
-        mem,
-    );
-    let mut places: [u32; 512] = [0; 512];
-    write_vertices(
-        leaves,
-        body,
-        roads,
-        vertices,
-        vertices_at,
-        &ins,
-        &mut places,
-        mem,
-    );
+    write_roads(shown, &mut ins, mem);
+    write_vertices(shown, &ins, mem);
 }
 
-fn write_row_section(
-    parents: &[u32],
-    leaves: &[u32],
-    lifts: &[u32],
-    vertices: u32,
-    parts: u32,
-    mem: &mut [u32],
-)
-    requires { (vertices ≤ most_vertices) × (parts ≤ most_parts) }
-    ensures { (m : Map) (body sizes : List ℕ) (roads used : ℕ) → used < 4294967296 → MapShown m parents.now leaves.now body lifts.now sizes vertices roads parts used → length mem.old ≡ used → ((p : ℕ) → p < part_count m → part_word mem.old p rows_in_part ≡ first_row_of m p) → RowsDone m mem.old mem.new }
+// The map that is shown and measured, in a memory with as many words as it needs.
+pub fn write_sections(shown: &ShownMap, measures: &Measures, used: u32, start: u32, mem: &mut [u32])
+    ensures { (m : Map) → MapShown m shown.now measures.now used → length mem.old ≡ used → Sections m start mem.new }
 {
-    let mut cursors: [u32; 512] = [0; 512];
-    first_rows(mem, parts, &mut cursors);
-    write_rows(
-        parents,
-        leaves,
-        lifts,
-        vertices,
-        HEAD_WORDS + PART_WORDS * parts,
-        &mut cursors,
-        mem,
-    );
-}
-
-// The parents of the parts, the leaves and lifts of the vertices, the body of the roads' record and the sizes of the parts show the map; the memory has
-// as many words as it needs.
-pub fn write_sections(
-    parents: &[u32],
-    leaves: &[u32],
-    body: &[u8],
-    lifts: &[u32],
-    sizes: &[u32],
-    counts: Counts,
-    used: u32,
-    start: u32,
-    mem: &mut [u32],
-)
-    requires { (counts.vertices ≤ most_vertices) × (counts.roads ≤ most_roads) × (counts.parts ≤ most_parts) }
-    ensures { (m : Map) → MapShown m parents.now leaves.now body.now lifts.now sizes.now counts.vertices counts.roads counts.parts used → length mem.old ≡ used → Sections m start mem.new }
-{
-    let vertices = counts.vertices;
-    let roads = counts.roads;
-    let parts = counts.parts;
-    write_head(mem, used, counts, start);
-    write_part_section(parents, sizes, parts, used, mem);
-    write_net(leaves, body, vertices, roads, parts, mem);
-    clear(
-        mem,
-        HEAD_WORDS + PART_WORDS * parts + VERTEX_WORDS * vertices + ROAD_WORDS * roads,
-        ALL_VAN_WORDS,
-    );
-    write_row_section(parents, leaves, lifts, vertices, parts, mem);
+    write_head(mem, used, shown.counts, start);
+    write_parts(shown, &measures.sizes, used, mem);
+    write_net(shown, mem);
+    clear(mem, van_at(shown.counts, 0), ALL_VAN_WORDS);
+    write_rows(shown, &measures.lifts, mem);
 }

@@ -1,55 +1,38 @@
 -- One vertex more.
 -- Assumes nothing.
-use Rattle.std.proofs.Common.{◌≡◌, ℕ, zero, suc, ◌+◌, ◌*◌, ◌%◌, ◌^◌, ◌<◌, ◌≤◌, Bool, eqb, ltb, List, [], ◌∷◌, length, set, sym, refl, ap, ◌∙◌, subst, ap₂, arith, length-set, get_or-set_other, get_or-set_same, le-ltb, lt-ltb, eq-eqb, ne_eqb}
+use Rattle.std.proofs.Common.{◌≡◌, ℕ, zero, suc, ◌+◌, ◌*◌, ◌%◌, ◌^◌, ◌<◌, ◌≤◌, Bool, eqb, ltb, List, length, set, sym, refl, ap, ◌∙◌, subst, ap₂, arith, length-set, get_or-set_other, get_or-set_same, le-ltb, lt-ltb, eq-eqb, ne_eqb}
+use Rattle.std.specs.Prelude.{Option, None, Some, MatchOption}
+use Rattle.std.specs.Option.{unwrap_or}
+use Rattle.maps.specs.Bytes.{road_shown}
 use native.Mathlib.Decide.{ℕ_discrete, dec_lt}
 use lib.Seq.{sets}
-use Rattle.words.specs.Limits.{NONE, FAR}
+use Rattle.words.specs.Limits.{most_parts}
 use Rattle.words.specs.Lists.{word, up_to, keep, place_in, link}
 use Rattle.words.specs.Ranks.{rank}
-use Rattle.words.proofs.Stores.{stored_join}
+use Rattle.words.proofs.Lists.{all_same}
+use Rattle.counts.specs.declared.Counts.{Counts}
+use Rattle.places.specs.Place.{vertex_address}
+use lib.ListN.{replicate}
 use Rattle.words.proofs.Ranks.{rank_none, rank_kept, rank_left, rank_most, rank_place, keep_first}
-use Rattle.layout.specs.Layout.{words_in_vertex, vans_in_vertex}
+use Rattle.layout.specs.Layout.{words_in_vertex}
 use Rattle.roads.specs.Map.{Road, Map, road_count, road_at, no_road}
 use Rattle.parts.specs.Tree.{leaf_of, vertices_of}
-use Rattle.maps.specs.Bytes.{field, road_shown}
 use Rattle.image.specs.Places.{vertices_at}
 use Rattle.image.specs.Image.{first_road_from, ends_at}
 use Rattle.records.proofs.Written.{written_up}
 use Rattle.opening_fresh.specs.Fresh.{vertex_words, fresh_vertex}
-use Rattle.opening_vertices.specs.Vertices.{Passed, Skipped, VerticesReady, VerticesStand}
+use Rattle.opening_vertices.specs.Vertices.{Skipped, VerticesReady, VerticesStand}
 
--- the two halves of a vertex's record
-pub vertex_stored : (mem p q : List ℕ) (at a b c d : ℕ) → p ≡ sets mem at (a ∷ b ∷ c ∷ d ∷ []) → q ≡ sets p (at + vans_in_vertex) (0 ∷ NONE ∷ FAR ∷ 0 ∷ []) → q ≡ sets mem at (vertex_words a b c d)
-vertex_stored mem p q at a b c d e f =
-    f ∙ ap (λ (l : List ℕ). sets l (at + vans_in_vertex) (0 ∷ NONE ∷ FAR ∷ 0 ∷ [])) e ∙ stored_join mem at (a ∷ b ∷ c ∷ d ∷ []) (0 ∷ NONE ∷ FAR ∷ 0 ∷ [])
-
--- the place taken
-pub place_taken : (places places' : List ℕ) (leaf at place next : ℕ) → at ≡ leaf → place ≡ word places at → next ≡ (place + 1) % 2 ^ 32 → places' ≡ set places at next
-    → (place ≡ word places leaf) × (places' ≡ set places leaf ((place + 1) % 2 ^ 32))
-place_taken places places' leaf at place next a p n e = (p ∙ ap (word places) a, e ∙ ap₂ (λ (i x : ℕ). set places i x) a n)
-
-module _ (body : List ℕ) (roads first v : ℕ) where
-  pub passing_none : Passed body roads first v first
-  passing_none = record { from = omega arith; most = λ h. h; below = λ i low high. absurd (omega arith) }
-
-  module _ (r number from : ℕ) (so : number ≡ r) (is : from ≡ field body (8 * number) 2) where
-    from_is : from ≡ (road_shown body r).from
-    unfolding road_shown
-    from_is = is ∙ ap (λ (k : ℕ). field body (8 * k) 2) so
-
-    pub passing_more : Passed body roads first v r → r < roads → from < v → Passed body roads first v (r + 1)
-    passing_more p h low =
-        record {
-          from = omega (arith, p.from);
-          most = λ k. omega arith;
-          below = λ i lo hi. elim (ℕ_discrete i r) [ yes same ↦ subst (λ (k : ℕ). (road_shown body k).from < v) (sym same) (omega (arith, from_is)) | no other ↦ p.below i lo (omega (arith, other)) ];
-        }
-
-    pub passing_stop : Passed body roads first v r → v ≤ from → Skipped body roads first v r
-    passing_stop p h = record { passed = p; stops = λ k. omega (arith, from_is) }
-
-  pub passing_end : (r : ℕ) → Passed body roads first v r → roads ≤ r → Skipped body roads first v r
-  passing_end r p h = record { passed = p; stops = λ k. absurd (omega arith) }
+-- what is found among the roads
+pub skipped_by : (body : List ℕ) (roads first v : ℕ) (found : Option ℕ) (r : ℕ) → first ≤ roads
+    → MatchOption found ((k : ℕ) → first ≤ k → k < roads → (road_shown body k).from < v)
+    (λ i. (first ≤ i) × (i < roads) × (v ≤ (road_shown body i).from) × ((k : ℕ) → first ≤ k → k < i → (road_shown body k).from < v))
+    → r ≡ unwrap_or found roads → Skipped body roads first v r
+skipped_by body roads first v None r h none is =
+    record { passed = record { from = omega arith; most = omega arith; below = λ i low high. none i low (omega arith) }; stops = λ k. absurd (omega arith) }
+skipped_by body roads first v (Some i) r h some is =
+    subst (Skipped body roads first v) (sym is)
+    (record { passed = record { from = some.0; most = omega (arith, some.1); below = some.3 }; stops = λ k. some.2 })
 
 -- which vertices stand in a part, if it is a leaf
 abbrev pub stands_in : Map → ℕ → ℕ → Bool
@@ -61,18 +44,18 @@ pub record Taken (m : Map) (v : ℕ) (places : List ℕ) (road : ℕ) : Type 0 w
   pub reached : road ≤ road_count m
   pub passed : (i : ℕ) → i < road → (road_at m i).from < v
 
-module _ (m : Map) (leaves body : List ℕ) (roads vertices base : ℕ) (ins places₀ mem₀ : List ℕ) (ready : VerticesReady m leaves body roads vertices base ins places₀ mem₀) where
-  pub taken_none : Taken m 0 places₀ 0
-  taken_none = record { place = λ q h. ready.none q h ∙ sym (rank_none (stands_in m q)); reached = omega arith; passed = λ i h. absurd (omega arith) }
+module _ (m : Map) (leaves body : List ℕ) (counts : Counts) (ins mem₀ : List ℕ) (ready : VerticesReady m leaves body counts ins mem₀) where
+  pub taken_none : Taken m 0 (replicate most_parts 0) 0
+  taken_none = record { place = λ q h. all_same most_parts q 0 ∙ sym (rank_none (stands_in m q)); reached = omega arith; passed = λ i h. absurd (omega arith) }
 
   -- the roads rise by their start
   rises : (i j : ℕ) → i ≤ j → j < road_count m → (road_at m i).from ≤ (road_at m j).from
   rises i zero h k = subst (λ (n : ℕ). (road_at m n).from ≤ (road_at m 0).from) (let none : 0 ≡ i = omega arith in none) (omega arith)
   rises i (suc j) h k = elim (ℕ_discrete i (suc j)) [ yes same ↦ subst (λ (n : ℕ). (road_at m n).from ≤ (road_at m (suc j)).from) (sym same) (omega arith) | no other ↦ omega (arith, rises i j (omega (arith, other)) (omega arith), ready.rising j k) ]
 
-  module _ (v road road' leaf place in-link : ℕ) (places places' mem mem' : List ℕ) (h : v < vertices) (long : length places ≡ length places₀) (taken : Taken m v places road)
-      (skipped : Skipped body roads road v road') (is_IsLeaf : leaf ≡ word leaves v) (is_place : place ≡ word places leaf) (takes : places' ≡ set places leaf ((place + 1) % 2 ^ 32))
-      (is-link : in-link ≡ word ins v) (stored : mem' ≡ sets mem (base + words_in_vertex * v) (vertex_words leaf place road' in-link)) where
+  module _ (v road road' leaf place in-link at : ℕ) (places places' mem mem' : List ℕ) (h : v < counts.vertices) (long : length places ≡ most_parts) (taken : Taken m v places road)
+      (skipped : Skipped body counts.roads road v road') (is_IsLeaf : leaf ≡ word leaves v) (is_place : place ≡ word places leaf) (takes : places' ≡ set places leaf ((place + 1) % 2 ^ 32))
+      (is-link : in-link ≡ word ins v) (is_at : at ≡ vertex_address counts v) (stored : mem' ≡ sets mem at (vertex_words leaf place road' in-link)) where
     here : v < m.vertices
     here = omega (arith, ready.count)
 
@@ -80,7 +63,7 @@ module _ (m : Map) (leaves body : List ℕ) (roads vertices base : ℕ) (ins pla
     leaf_is = is_IsLeaf ∙ ready.leaves_shown v here
 
     leaf_in : leaf < length places
-    leaf_in = omega (arith, ready.leaf_room v here, ap (λ (n : ℕ). n) leaf_is)
+    leaf_in = omega (arith, ready.leaf_part v here, ap (λ (n : ℕ). n) leaf_is)
 
     place_is : place ≡ rank (stands_in m leaf) v
     place_is = is_place ∙ taken.place leaf leaf_in
@@ -91,7 +74,7 @@ module _ (m : Map) (leaves body : List ℕ) (roads vertices base : ℕ) (ins pla
     first_road = sym (keep_first (λ (r : Road). ltb r.from v) no_road m.roads road' reached (λ i k. lt-ltb (road_at m i).from v (below i k)) (λ i low k. le-ltb (road_at m i).from v (above i low k)))
       where
         reached : road' ≤ road_count m
-        reached = omega (arith, skipped.passed.most (omega (arith, taken.reached, ready.road_count_lem)), ready.road_count_lem)
+        reached = omega (arith, skipped.passed.most, ready.road_count_lem)
 
         below : (i : ℕ) → i < road' → (road_at m i).from < v
         below i k = elim (dec_lt i road) [ yes old ↦ taken.passed i old | no new ↦ subst (λ (r : Road). r.from < v) (ready.roads_shown i (omega (arith, reached))) (skipped.passed.below i (omega (arith, new)) k) ]
@@ -119,7 +102,7 @@ module _ (m : Map) (leaves body : List ℕ) (roads vertices base : ℕ) (ins pla
     vertices_more : VerticesStand m v mem₀ mem → VerticesStand m (v + 1) mem₀ mem'
     vertices_more old =
         written_up (vertices_at m) words_in_vertex (fresh_vertex m) 0 v mem₀ mem mem' (omega arith) sized (omega (arith, ready.room, old.long)) old
-        (stored ∙ ap₂ (λ (k : ℕ) (l : List ℕ). sets mem (k + words_in_vertex * v) l) ready.start same_record)
+        (stored ∙ ap₂ (sets mem) (is_at ∙ ap (λ (k : ℕ). k + words_in_vertex * v) ready.start) same_record)
 
     one_more : (place + 1) % 2 ^ 32 ≡ suc (rank (stands_in m leaf) v)
     one_more = omega (arith, place_is, rank_most (stands_in m leaf) v, ready.few)
@@ -148,13 +131,13 @@ module _ (m : Map) (leaves body : List ℕ) (roads vertices base : ℕ) (ins pla
     taken_more =
         record {
           place = λ q k. places_now q k ∙ ap (rank (stands_in m q)) (let one : suc v ≡ v + 1 = omega arith in one);
-          reached = omega (arith, skipped.passed.most (omega (arith, taken.reached, ready.road_count_lem)), ready.road_count_lem);
+          reached = omega (arith, skipped.passed.most, ready.road_count_lem);
           passed = λ i k. elim (dec_lt i road) [ yes old ↦ omega (arith, taken.passed i old) | no new ↦ again i (omega (arith, new)) k ];
         }
       where
         again : (i : ℕ) → road ≤ i → i < road' → (road_at m i).from < v + 1
         again i low k =
-            let most = skipped.passed.most (omega (arith, taken.reached, ready.road_count_lem)) in
+            let most = skipped.passed.most in
             let less : (road_at m i).from < v = subst (λ (r : Road). r.from < v) (ready.roads_shown i (omega (arith, most, ready.road_count_lem))) (skipped.passed.below i low k) in
             omega (arith, less)
 

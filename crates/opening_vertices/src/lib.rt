@@ -2,84 +2,54 @@
 // from that of the vertex before.
 #![tactic(auto)]
 
-ghost use Rattle.std.specs.Prelude.{◌≡◌, ◌+◌, ◌%◌, ◌^◌, ◌<◌, ◌≤◌, slice_set};
-ghost use Rattle.std.proofs.lemmas.List.Edits.{sets};
-ghost use Rattle.words.specs.Limits.{most_vertices, most_roads};
+ghost use Rattle.std.specs.Prelude.{◌≡◌, ◌+◌, ◌%◌, ◌^◌, ◌≤◌, slice_set};
 ghost use Rattle.words.specs.Lists.{word};
 ghost use Rattle.roads.specs.Map.{Map};
-ghost use Rattle.opening_fresh.specs.Fresh.{vertex_words};
 ghost use Rattle.opening_vertices.specs.Vertices.{Skipped, VerticesReady, VerticesStand};
 
-use cells::{put, wide, word};
-use layout::VertexRecord;
-use map_bytes::number2;
-use records::put4;
+use cells::{put, word};
+use map_parts::ShownMap;
+use map_roads::Road;
+use places::vertex_at;
+use records::put_words;
 use rows::Row;
-use std::num::wrapping_add_u32;
 
-// The first road from `first` on that does not start below v.
+// The first road from `first` on that does not start below v; the number of roads, if all of them do.
 fn skip(body: &[u8], roads: u32, first: u32, v: u32) -> u32
-    requires { roads ≤ most_roads }
+    requires { first ≤ roads }
     ensures { Skipped body.now roads first v result }
 {
-    let mut r = first;
-    while r < roads {
-        let from = number2(body, 8 * wide(r));
-        if v <= from {
-            return r;
-        }
-        r += 1;
-    }
-    r
+    (first..roads)
+        .find(|r| v <= Road::read(body, *r).from)
+        .unwrap_or(roads)
 }
 
 // The next place in a leaf.
 fn next_place(places: &mut [u32], leaf: u32) -> u32
     ensures { (result ≡ word places.old leaf) × (places.new ≡ slice_set places.old leaf ((result + 1) % 2 ^ 32)) }
 {
-    let at = wide(leaf);
+    let at = leaf as usize;
     let place = word(places, at);
-    put(places, at, wrapping_add_u32(place, 1));
+    put(places, at, place.wrapping_add(1));
     place
 }
 
-const VERTEX_WORDS: u32 = VertexRecord::WORDS as u32;
-
-// The record's second half starts with the link to its vans.
-const SECOND_HALF: u32 = VertexRecord::VANS as u32;
-
-// No van heads for the vertex.
-fn write_vertex(mem: &mut [u32], at: u32, leaf: u32, place: u32, road: u32, link: u32)
-    requires { at < 4294967000 }
-    ensures { mem.new ≡ sets mem.old at (vertex_words leaf place road link) }
+// The vertices of the map, without vans; `ins` has the link from each to the first road into it.
+pub fn write_vertices(shown: &ShownMap, ins: &[u32], mem: &mut [u32])
+    ensures { (m : Map) → VerticesReady m shown.now.leaves shown.now.body.now shown.now.counts ins.now mem.old → VerticesStand m m.vertices mem.old mem.new }
 {
-    put4(mem, at, leaf, place, road, link);
-    put4(mem, at + SECOND_HALF, 0, Row::NO_VERTEX, Row::FAR, 0);
-}
-
-// The vertices of a map whose section starts at `base`; `ins` has the link from each to the first road into it, and `places`, all 0
-// before, a word for each part.
-pub fn write_vertices(
-    leaves: &[u32],
-    body: &[u8],
-    roads: u32,
-    vertices: u32,
-    base: u32,
-    ins: &[u32],
-    places: &mut [u32],
-    mem: &mut [u32],
-)
-    requires { (roads ≤ most_roads) × (vertices ≤ most_vertices) × (base ≤ 65536) }
-    ensures { (m : Map) → VerticesReady m leaves.now body.now roads vertices base ins.now places.old mem.old → VerticesStand m vertices mem.old mem.new }
-{
-    let mut road: u32 = 0;
-    let mut v: u32 = 0;
-    while v < vertices {
-        road = skip(body, roads, road, v);
-        let leaf = word(leaves, wide(v));
-        let place = next_place(places, leaf);
-        let link = word(ins, wide(v));
-        write_vertex(mem, base + VERTEX_WORDS * v, leaf, place, road, link);
-        v += 1;
+    let mut places: [u32; 512] = [0; 512];
+    let mut road = 0;
+    for v in 0..shown.counts.vertices {
+        road = skip(shown.body, shown.counts.roads, road, v);
+        let leaf = shown.leaf(v);
+        let place = next_place(&mut places, leaf);
+        let link = word(ins, v as usize);
+        let at = vertex_at(shown.counts, v);
+        put_words(
+            mem,
+            at,
+            [leaf, place, road, link, 0, Row::NO_VERTEX, Row::FAR, 0],
+        );
     }
 }

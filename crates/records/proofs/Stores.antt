@@ -1,45 +1,51 @@
--- The stores of `put4` and of `clear`, one after the other, are a run of stores.
+-- The stores of `put_words` and of `clear` are a run of stores.
 -- Assumes nothing.
-use mathlib.Core.Path.{◌≡◌, ap, ap₂, sym, ◌∙◌}
-use mathlib.Core.List.{List, [], ◌∷◌}
-use Prim.Native.Nat.{ℕ, suc, ◌+◌, ◌-◌, ◌<◌, ◌≤◌}
-use native.Mathlib.Omega.{arith}
-use lib.ListN.{set, replicate}
-use lib.Seq.{sets}
+use Rattle.std.proofs.Common.{◌≡◌, ℕ, zero, suc, ◌+◌, ◌-◌, ◌<◌, ◌≤◌, List, [], ◌∷◌, ◌++◌, length, set, drop, take, refl, sym, ap, ap₂, ◌∙◌, min, arith, length-set, append_assoc}
+use native.Mathlib.Decide.{dec_lt}
+use lib.ListN.{get_or, replicate, length-replicate}
+use lib.Seq.{sets, sets-eq, drop-cons, set_out}
+use borrow.Rule.Slice.PartMut.{put_mid}
+use Rattle.std.proofs.lemmas.Slice.{put_mid-paste}
+use Rattle.std.proofs.lemmas.List.Edits.{paste_all}
+use Rattle.records.specs.Cleared.{cleared}
 
-pub four : (mem p q r s : List ℕ) (base at a b c d : ℕ) → base ≡ at → p ≡ set mem base a → q ≡ set p (base + 1) b → r ≡ set q (base + 2) c → s ≡ set r (base + 3) d
-    → s ≡ sets mem at (a ∷ b ∷ c ∷ d ∷ [])
-four mem p q r s base at a b c d same e f g h =
-    h
-    ∙ ap₂ (λ (l : List ℕ) (i : ℕ). set l i d) (g ∙ ap₂ (λ (l : List ℕ) (i : ℕ). set l i c) (f ∙ ap₂ (λ (l : List ℕ) (i : ℕ). set l i b) (e ∙ ap (λ (i : ℕ). set mem i a) same) one) two) three
+-- the words from number i on, that one first
+pub words_more : (mem words : List ℕ) (at i : ℕ) → i < length words → sets (set mem (at + i) (get_or words i 0)) (at + (i + 1)) (drop (i + 1) words) ≡ sets mem (at + i) (drop i words)
+words_more mem words at i h =
+    let next : at + (i + 1) ≡ suc (at + i) = omega arith in
+    let one : i + 1 ≡ suc i = omega arith in
+    ap₂ (λ (k : ℕ) (ws : List ℕ). sets (set mem (at + i) (get_or words i 0)) k ws) next (ap (λ (k : ℕ). drop k words) one)
+    ∙ sym (ap (sets mem (at + i)) (drop-cons words i 0 h))
+
+-- past the end nothing is stored
+pub sets_past : (words mem : List ℕ) (at : ℕ) → length mem ≤ at → sets mem at words ≡ mem
+sets_past [] mem at h = refl
+sets_past (x ∷ words) mem at h = sets_past words (set mem at x) (suc at) (omega (arith, length-set mem at x)) ∙ set_out mem at x h
+
+-- so of n words 0 as many are stored as have room
+fewer : (k n : ℕ) (mem : List ℕ) (at : ℕ) → k ≤ n → length mem ≤ at + k → sets mem at (replicate n 0) ≡ sets mem at (replicate k 0)
+fewer zero n mem at h full = sets_past (replicate n 0) mem at (omega arith)
+fewer (suc k) zero mem at h full = absurd (omega arith)
+fewer (suc k) (suc n) mem at h full = fewer k n (set mem at 0) (suc at) (omega arith) (omega (arith, length-set mem at 0))
+
+-- a filled part of the memory
+pub clear_fill : (mem mid : List ℕ) (at n start count : ℕ) → start ≡ min at (length mem) → count ≡ min n (length mem - start) → mid ≡ replicate count 0 → put_mid start (start + count - start) mem mid ≡ cleared mem at n
+unfolding cleared
+clear_fill mem mid at n start count s c f =
+    put_mid-paste start (start + count - start) mem mid (replicate count 0) count f (omega arith) (sym (length-replicate {A = ℕ} count 0))
+    ∙ paste_all mem start (replicate count 0) count (sym (length-replicate {A = ℕ} count 0))
+    ∙ sym (append_assoc (take start mem) (replicate count 0) (drop (start + count) mem))
+    ∙ ap (λ (k : ℕ). take start mem ++ replicate count 0 ++ drop (start + k) mem) (sym (length-replicate {A = ℕ} count 0))
+    ∙ sym (sets-eq (replicate count 0) mem start (omega (arith, length-replicate {A = ℕ} count 0)))
+    ∙ sym (short (dec_lt (length mem) at))
   where
-    one : base + 1 ≡ suc at
-    one = omega (arith, same)
+    short : Dec (length mem < at) → sets mem at (replicate n 0) ≡ sets mem start (replicate count 0)
+    short (yes past) = sets_past (replicate n 0) mem at (omega arith) ∙ sym (sets_past (replicate count 0) mem start (omega arith))
+    short (no within) = by (dec_lt count n)
+      where
+        here : at ≡ start
+        here = omega (arith, within)
 
-    two : base + 2 ≡ suc (suc at)
-    two = omega (arith, same)
-
-    three : base + 3 ≡ suc (suc (suc at))
-    three = omega (arith, same)
-
--- What is left of n words, i of them stored: storing it gives the whole run.
-pub record Clearing (start : List ℕ) (at n : ℕ) (mem : List ℕ) (i : ℕ) : Type 0 where
-  pub reached : i ≤ n
-  pub rest : sets mem (at + i) (replicate (n - i) 0) ≡ sets start at (replicate n 0)
-
-pub clearing_none : (start : List ℕ) (at n : ℕ) → Clearing start at n start 0
-clearing_none start at n =
-    record { reached = omega arith; rest = ap₂ (λ (i k : ℕ). sets start i (replicate k 0)) (let none : at + 0 ≡ at = omega arith in none) (let all : n - 0 ≡ n = omega arith in all) }
-
-pub clearing_more : (start : List ℕ) (at n : ℕ) (mem mem' : List ℕ) (i : ℕ) → i < n → Clearing start at n mem i → mem' ≡ set mem (at + i) 0 → Clearing start at n mem' (i + 1)
-clearing_more start at n mem mem' i h l e =
-    record {
-      reached = omega arith;
-      rest =
-          ap₂ (λ (k : List ℕ) (j : ℕ). sets k j (replicate (n - (i + 1)) 0)) e (let next : at + (i + 1) ≡ suc (at + i) = omega arith in next)
-          ∙ ap (λ (k : ℕ). sets mem (at + i) (replicate k 0)) (let more : suc (n - (i + 1)) ≡ n - i = omega arith in more)
-          ∙ l.rest;
-    }
-
-pub clearing_all : (start : List ℕ) (at n : ℕ) (mem : List ℕ) (i : ℕ) → n ≤ i → Clearing start at n mem i → mem ≡ sets start at (replicate n 0)
-clearing_all start at n mem i h l = sym (ap (λ (k : ℕ). sets mem (at + i) (replicate k 0)) (let none : n - i ≡ 0 = omega arith in none)) ∙ l.rest
+        by : Dec (count < n) → sets mem at (replicate n 0) ≡ sets mem start (replicate count 0)
+        by (yes less) = fewer count n mem at (omega arith) (omega (arith, within)) ∙ ap (λ (k : ℕ). sets mem k (replicate count 0)) here
+        by (no all) = ap₂ (λ (k l : ℕ). sets mem k (replicate l 0)) here (let same : n ≡ count = omega (arith, all) in same)

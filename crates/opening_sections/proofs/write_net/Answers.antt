@@ -1,9 +1,9 @@
 -- `write_net` writes the roads and then the vertices of a sound map that is shown.
 -- Assumes nothing.
-use mathlib.Core.Path.{refl, ◌∙◌}
+use mathlib.Core.Path.{◌∙◌}
 use Prim.Native.Nat.{ℕ}
 use lib.ListN.{length-replicate}
-use Rattle.words.specs.Limits.{most_vertices, most_parts}
+use Rattle.words.specs.Limits.{most_vertices}
 use Rattle.words.proofs.Lists.{all_same}
 use Rattle.opening_sections.proofs.Ready.{roads_ready, net_stands}
 use Rattle.opening_sections.proofs.write_net.Goals as goal
@@ -11,9 +11,7 @@ use Rattle.opening_sections.proofs.write_net.Goals as goal
 pub returns : goal.returns
 returns c =
     let args = c.args in
-    let write-roads = c.write_roads in
-    let write-vertices = c.write_vertices in
-    λ m parents lifts sizes used shown long.
-    let S = roads_ready m parents args.leaves.now args.body.now lifts sizes args.vertices args.roads args.parts used shown args.mem.now long in
-    net_stands m parents args.leaves.now args.body.now lifts sizes args.vertices args.roads args.parts used shown args.mem.now long _ _ (write-roads.auto.ins ∙ length-replicate {A = ℕ} most_vertices 0) _ _ (length-replicate {A = ℕ} most_parts 0) (λ q h. all_same most_parts q 0)
-    (write-roads.ensures m (S _ _ refl (length-replicate {A = ℕ} most_vertices 0) (λ q h. all_same most_vertices q 0))) (write-vertices.ensures m)
+    let wide = length-replicate {A = ℕ} most_vertices 0 in
+    λ m measures used is long.
+    net_stands m args.shown.now measures used is args.mem.now long _ _ _ (c.write_roads.auto.ins ∙ wide)
+    (c.write_roads.ensures m (roads_ready m args.shown.now measures used is args.mem.now long _ wide (λ v h. all_same most_vertices v 0))) (c.write_vertices.ensures m)

@@ -1,23 +1,14 @@
--- `skip` passes the roads that start below v.
+-- `skip` finds the first road that does not start below v.
 -- Assumes nothing.
-use Rattle.opening_vertices.proofs.Step.{passing_more, passing_stop}
+use Rattle.std.proofs.Common.{◌<◌, ◌≤◌, arith, rules, tests}
+use Rattle.std.proofs.lemmas.Iterator.{first_from_Range}
+use Rattle.maps.specs.Bytes.{road_shown}
+use Rattle.opening_vertices.proofs.Step.{skipped_by}
 use Rattle.opening_vertices.proofs.skip.Goals as goal
 
-pub returns-then-v-from : goal.returns-then-v-from
-returns-then-v-from c =
+pub returns : goal.returns
+returns c =
     let args = c.args in
-    let loop = c.loop-r in
-    let wide = c.wide in
-    let number2 = c.number2-from in
-    let if1 = c.if-v-from in
-    passing_stop args.body.now args.roads args.first args.v loop.r _ _ wide.ensures number2.ensures.0 loop.invariant if1.true
-
-pub loop-r-preserved : goal.loop-r-preserved
-loop-r-preserved c =
-    let args = c.args in
-    let loop = c.loop-r in
-    let loop-test = c.loop-r-test in
-    let wide = c.wide in
-    let number2 = c.number2-from in
-    let if1 = c.if-v-from in
-    passing_more args.body.now args.roads args.first args.v loop.r _ _ wide.ensures number2.ensures.0 loop.invariant loop-test.true if1.false
+    skipped_by args.body.now args.roads args.first args.v _ _ c.requires
+    (first_from_Range _ _ _ _ (λ r. args.v ≤ (road_shown args.body.now r).from) (λ r. (road_shown args.body.now r).from < args.v) c.find.ensures.ran (λ x q k. grind (arith, tests)) (λ x q k. (search rules, grind (arith, tests))))
+    c.unwrap_or.ensures

@@ -1,34 +1,11 @@
--- `clear` stores 0, word by word.
+-- `clear` fills as many words as have room.
 -- Assumes nothing.
-use mathlib.Core.Path.{◌≡◌, refl, ◌∙◌, ap₂}
-use mathlib.Core.List.{List}
-use Prim.Native.Nat.{ℕ, ◌-◌, ◌≤◌}
-use lib.ListN.{length, replicate}
-use lib.Seq.{sets}
-use borrow.Author.Rules.{rules}
-use Rattle.records.specs.Cleared.{cleared}
-use Rattle.records.proofs.Stores.{Clearing, clearing_none, clearing_more, clearing_all}
+use Rattle.std.proofs.Common.{ap, ◌∙◌, arith, length-take, length-drop}
+use lib.ListN.{replicate}
+use Rattle.records.proofs.Stores.{clear_fill}
 use Rattle.records.proofs.clear.Goals as goal
-
-all-cleared : (start mem : List ℕ) (at n base count i : ℕ) → base ≡ at → count ≡ n → count ≤ i → Clearing start base count mem i → mem ≡ cleared start at n
-unfolding cleared
-all-cleared start mem at n base count i b k h l = clearing_all start base count mem i h l ∙ ap₂ (λ (a c : ℕ). sets start a (replicate c 0)) b k
-
-pub loop-i-preserved : goal.loop-i-preserved
-loop-i-preserved c =
-    let args = c.args in
-    let wide = c.wide-base in
-    let wide2 = c.wide-count in
-    let loop = c.loop-i in
-    let loop-test = c.loop-i-test in
-    let put = c.put in
-    (clearing_more args.mem.now wide.result wide2.result loop.mem _ loop.i loop-test.true loop.invariant.0 put.ensures, put.auto.mem ∙ loop.invariant.1)
 
 pub returns : goal.returns
 returns c =
-    let args = c.args in
-    let wide = c.wide-base in
-    let wide2 = c.wide-count in
-    let loop = c.loop-i in
-    let loop-test = c.loop-i-test in
-    all-cleared args.mem.now loop.mem args.at args.n wide.result wide2.result loop.i wide.ensures wide2.ensures loop-test.false loop.invariant.0
+    clear_fill c.args.mem.now _ c.args.at c.args.n _ _ c.min-start.ensures c.min-count.ensures
+    (c.fill.ensures.after (λ y e. e) ∙ ap (λ n. replicate n 0) (simp (length-take, length-drop) (omega (arith, c.min-start.ensures, c.min-count.ensures))))

@@ -1,9 +1,0 @@
-use Rattle.std.proofs.Common.{◌-◌}
-use Rattle.opening_vertices.specs.Vertices.{Passed}
-use Rattle.opening_vertices.proofs.skip.Given as goal
-
-abbrev pub invariant-loop-r : goal.invariant-loop-r
-invariant-loop-r l = Passed l.body l.roads l.first l.v l.r
-
-abbrev pub decreases-loop-r : goal.decreases-loop-r
-decreases-loop-r l = l.roads - l.r
