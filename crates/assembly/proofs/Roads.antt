@@ -228,9 +228,6 @@ module _ (start place marks : List ℕ) (p i from : ℕ) where
   abbrev pub RoadsTo : ℕ → List ℕ → List ℕ → Type 0
   RoadsTo r mem marked = (m : Map) → LaidForTables m start → p < part_count m → i < size_of m p → Noted m p (size_of m p) place → most_borders ≤ length marks → RoadsOf m p i from r start mem marks marked
 
-  pub roads_first : RoadsTo from start marks
-  roads_first m L hp hi N _ = roads_none (λ r k j of _ _ _. omega (arith, of.1, of.2))
-
   pub roads_turn : {first mark v end : ℕ} (before after marked marked' : List ℕ) (r : ℕ) → length marked ≡ length marks → r < end →
       first ≡ part_word start p rows_in_part → mark ≡ row_word start first i own_in_row → ((u d : ℕ) → u < child_in_row → mark ≡ u + child_in_row * d → v ≡ u) →
       ((m : Map) → LaidForTables m start → v + 1 ≤ m.vertices → end ≡ first_road_from m (v + 1)) → RoadsTo r before marked →
@@ -273,9 +270,6 @@ module _ (start place marks : List ℕ) (p : ℕ) where
   abbrev pub RowsTaken : ℕ → List ℕ → List ℕ → Type 0
   RowsTaken i mem marked = (m : Map) → LaidForTables m start → p < part_count m → Noted m p (size_of m p) place → most_borders ≤ length marks → Roads m p i start mem marks marked
 
-  pub taken_first : RowsTaken 0 start marks
-  taken_first m L hp N _ = roads_none (λ r i j of _ _ _. omega arith)
-
   pub taken_turn : {size : ℕ} (before after marked marked' : List ℕ) (i : ℕ) → length marked ≡ length marks → i < size → size ≡ part_word start p size_in_part → RowsTaken i before marked →
       ((m : Map) → LaidForTables m before → p < part_count m → i < size_of m p → Noted m p (size_of m p) place → most_borders ≤ length marked → RoadsOf m p i 0 (road_count m) before after marked marked') → RowsTaken (i + 1) after marked'
   taken_turn before after marked marked' i long hi size_is done row m L hp N wide =
@@ -287,28 +281,3 @@ module _ (start place marks : List ℕ) (p : ℕ) where
   pub taken_done : {size : ℕ} (mem marked : List ℕ) (i : ℕ) → i ≤ size → size ≤ i → size ≡ part_word start p size_in_part → RowsTaken i mem marked →
       (m : Map) → LaidForTables m start → p < part_count m → Noted m p (size_of m p) place → most_borders ≤ length marks → Roads m p (size_of m p) start mem marks marked
   taken_done mem marked i within all size_is done m L hp N wide = subst (λ (n : ℕ). Roads m p n start mem marks marked) (omega (arith, (L.part p hp).size)) (done m L hp N wide)
-
--- ---- marks
-
-pub mark_none : (marks : List ℕ) {i j d e : ℕ} → d ≡ e → (d ≡ 0 → ⊥) → HaltsMarked marks i j d e marks
-mark_none marks same some = record { kept = λ k h. h; both = λ _ _ none. absurd (some (none same)) }
-
-pub mark_both : (marks : List ℕ) {i j d e a b : ℕ} {one two : List ℕ} → a ≡ i → b ≡ j → one ≡ set marks a 1 → two ≡ set one b 1 → HaltsMarked marks i j d e two
-mark_both marks {i} {j} a-is b-is one-is two_is = rw (two_is, one-is, a-is, b-is) (record {
-  kept = λ k h. mark_kept (set marks i 1) j k (mark_kept marks i k h);
-  both = λ hi hj _. (mark_kept (set marks i 1) j i (get_or-set_same marks i 1 0 hi), get_or-set_same (set marks i 1) j 1 0 (omega (arith, length-set marks i 1)));
-})
-  where
-    mark_kept : (l : List ℕ) (a k : ℕ) → get_or l k 0 ≡ 1 → get_or (set l a 1) k 0 ≡ 1
-    mark_kept l a k h = elim (ℕ_discrete k a) [
-      | yes same ↦ elim (dec_lt a (length l)) [
-        | yes inside ↦ subst⁻¹ (λ (x : ℕ). get_or (set l a 1) x 0 ≡ 1) same (get_or-set_same l a 1 0 inside)
-        | no past ↦
-            let none : get_or l a 0 ≡ 0 = get_or-eq_default l 0 (omega (arith, past)) in
-            absurd (omega (arith, h, ap (λ (x : ℕ). get_or l x 0) same, none))
-      ]
-      | no other ↦ get_or-set_other l a k 1 0 other ∙ h
-    ]
-
-pub mark_length : (marks : List ℕ) (a b : ℕ) {one two : List ℕ} → one ≡ set marks a 1 → two ≡ set one b 1 → length two ≡ length marks
-mark_length marks a b one-is two_is = ap length two_is ∙ simp length-set (ap length one-is ∙ simp length-set)

@@ -26,7 +26,7 @@ pub fn note_rows(mem: &[u32], p: u32, place: &mut [u32])
     }
 }
 
-// Rows i and j are marked as halts, unless one child d, e holds the vertices of both.
+// Rows i and j are marked as halts, unless one child d, e holds the vertices of both. Marks are words, since `take_roads` may be lent any: a row whose word is 1 is a halt.
 fn mark(marks: &mut [u32], i: u32, j: u32, d: u32, e: u32)
     ensures halts_marked { HaltsMarked marks.old i j d e marks.new }
     ensures marks_len_unchanged { length marks.new ≡ length marks.old }
