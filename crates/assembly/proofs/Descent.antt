@@ -7,7 +7,6 @@ use mathlib.Core.List.{List, Memᴰ}
 use Prim.Native.Nat.{ℕ, suc, ◌+◌, ◌*◌, ◌≤◌, ◌<◌}
 use native.Mathlib.Nat.{eq-or-lt_of_le, le_antisymm}
 use native.Mathlib.Decide.{dec_lt, ℕ_discrete}
-use native.Mathlib.Numerals.{add-one}
 use native.Mathlib.Omega.{arith}
 use lib.ListN.{get_or}
 use Rattle.words.specs.Limits.{most_vertices, FAR}
@@ -33,7 +32,7 @@ use Rattle.assembly.specs.Laid.{LaidForTables, Filled, table_entry}
 use Rattle.assembly.specs.Lower.{Lower, Inside, Short}
 use Rattle.assembly.specs.Steps.{RowIn, place_below, Agreed, Tight, EnteredRow, Entered, Risen, Descended}
 use Rattle.assembly.proofs.Places.{row_is, row_real, laid_kept}
-use Rattle.assembly.proofs.Lowering.{lower_none, lower_then, inside_lower}
+use Rattle.assembly.proofs.Lowering.{lower_then, inside_lower}
 use Rattle.assembly.proofs.Trying.{tried_lower, tried_tight, tried_keeps}
 use Rattle.assembly.proofs.Below.{child_later, row_one, place_below_lem}
 use Rattle.assembly.proofs.Rising.{row_of_vertex, vertex_row, by_vertices, by_rows}
@@ -41,10 +40,6 @@ use Rattle.assembly.proofs.Rising.{row_of_vertex, vertex_row, by_vertices, by_ro
 -- ---- one row tried in the child that holds its vertex
 
 module _ {m : Map} {p i : ℕ} where
-  -- no child holds it
-  pub row_nowhere : ((c : ℕ) → RowIn m p i c → ⊥) → (mem : List ℕ) → EnteredRow m p i mem mem
-  row_nowhere alone mem = record { lower = lower_none m 0 mem; tight = λ d di. absurd (alone d di); keeps = λ q k _ _ tight. tight }
-
   pub row_entered : {c : ℕ} → RowIn m p i c → {mem after : List ℕ} → Tried (table_of m c) (size_of m c) (place_below m p i c) mem after → LaidForTables m mem → i < size_of m p →
       Inside m 0 mem → EnteredRow m p i mem after
   row_entered {c} ri {mem} {after} T L hi I =
@@ -64,9 +59,6 @@ module _ (start : List ℕ) (p : ℕ) where
   abbrev pub EnteredTo : ℕ → List ℕ → Type 0
   EnteredTo i mem = (m : Map) → LaidForTables m start → p < part_count m → Inside m 0 start → Entered m p i start mem
 
-  pub entered_first : EnteredTo 0 start
-  entered_first m L hp I = record { lower = lower_none m 0 start; tight = λ i c h. absurd (omega arith) }
-
   pub entered_turn : {size : ℕ} (before after : List ℕ) (i : ℕ) → i < size → size ≡ part_word start p size_in_part → EnteredTo i before →
       ((m : Map) → LaidForTables m before → p < part_count m → i < size_of m p → Inside m 0 before → EnteredRow m p i before after) → EnteredTo (i + 1) after
   entered_turn before after i hi size_is done row m L hp I =
@@ -84,10 +76,6 @@ module _ (start : List ℕ) (p : ℕ) where
               B.keeps c (place_below m p k c) (child_later m L.sound p c rk.is_child).0 (place_below_lem m L.sound p k c (omega (arith, fits)) rk).0 (A.tight k c (omega arith) rk)
         ];
       }
-
-  pub entered_done : {size : ℕ} (mem : List ℕ) (i : ℕ) → i ≤ size → size ≤ i → size ≡ part_word start p size_in_part → EnteredTo i mem →
-      (m : Map) → LaidForTables m start → p < part_count m → Inside m 0 start → Entered m p (size_of m p) start mem
-  entered_done mem i within all size_is done m L hp I = subst (λ (n : ℕ). Entered m p n start mem) (omega (arith, (L.part p hp).size)) (done m L hp I)
 
 -- ---- a part descended
 
@@ -178,14 +166,6 @@ descended_step mem one two p agree enter m start L hp D =
 module _ (mem : List ℕ) where
   abbrev pub DescendedTo : ℕ → List ℕ → Type 0
   DescendedTo p now = (m : Map) (start : List ℕ) → LaidForTables m start → Descended m 0 start mem → (p ≤ part_count m → Descended m p start now)
-
-  pub descended_first : DescendedTo 0 mem
-  descended_first m start L D _ = D
-
-  pub descended_turn : (before after : List ℕ) (p : ℕ) → DescendedTo p before →
-      ((m : Map) (start : List ℕ) → LaidForTables m start → p < part_count m → Descended m p start before → Descended m (suc p) start after) → DescendedTo (p + 1) after
-  descended_turn before after p done step m start L D within =
-      subst⁻¹ (λ (n : ℕ). Descended m n start after) (add-one p) (step m start L (omega arith) (done m start L D (omega arith)))
 
   pub descended_done : {count : ℕ} (now : List ℕ) (p : ℕ) → p ≤ count → count ≤ p → count ≡ word mem parts_in_head → DescendedTo p now →
       (m : Map) (start : List ℕ) → LaidForTables m start → Descended m 0 start mem → Descended m (part_count m) start now

@@ -6,7 +6,6 @@ use mathlib.Core.List.{List}
 use Prim.Native.Nat.{ℕ, ◌+◌, ◌*◌, ◌≤◌, ◌<◌}
 use native.Mathlib.Nat.{eq-or-lt_of_le}
 use native.Mathlib.Omega.{arith}
-use lib.ListN.{length, get_or, length-set}
 use Rattle.words.specs.Lists.{word}
 use Rattle.cells.specs.Lowered.{lowered}
 use Rattle.layout.specs.Layout.{size_in_part, rows_in_part, words_in_row, own_in_row, child_in_row, below_in_row, part_word, row_word}
@@ -155,10 +154,6 @@ pair_together mem {j} {c} {mark} {part} {row} {k} {first} {line} {firstBelow} {l
         (at.first_below_is ∙ sym (L.part c (child_later m L.sound p c at.row_in_lem.is_child).0).first_row) points finds
 
 -- ---- turns of the loops
-
-pub leveled_length : (mem : List ℕ) (a b : ℕ) → length (leveled mem a b) ≡ length mem
-unfolding leveled
-leveled_length mem a b = length-set (lowered mem a (get_or mem b 0)) b _ ∙ length-set mem a _
 
 module _ (start : List ℕ) (p : ℕ) where
   abbrev pub RowsTo : ℕ → List ℕ → Type 0

@@ -33,7 +33,7 @@ use Rattle.assembly.specs.Laid.{LaidForTables, table_entry, OutsideTables}
 use Rattle.assembly.specs.Lower.{Honest, Lower, Inside}
 use Rattle.assembly.specs.Steps.{RowIn, place_below, Agreed, Noted, NotTogether, Roads, Tight, AtHome, Closed, Marked, HaltTried, Risen}
 use Rattle.assembly.proofs.Places.{table_from, tables_apart, table_to, row_is, row_real, laid_kept}
-use Rattle.assembly.proofs.Lowering.{lower_none, lower_then}
+use Rattle.assembly.proofs.Lowering.{lower_then}
 use Rattle.assembly.proofs.Trying.{tried_lower, tried_tight, tried_keeps}
 use Rattle.assembly.proofs.Below.{child_later, place_below_lem}
 
@@ -71,9 +71,6 @@ is_marked marked k = by (get_or marked k false)
 module _ (start : List ℕ) (marked : List Bool) (p : ℕ) where
   abbrev pub ClosedTo : ℕ → List ℕ → Type 0
   ClosedTo k mem = (m : Map) → LaidForTables m start → p < part_count m → AtHome m p start → Closed m p k marked start mem
-
-  pub closed_first : ClosedTo 0 start
-  closed_first m L hp home = record { lower = lower_none m p start; tight = λ k h. absurd (omega arith) }
 
   pub closed_turn : {size table : ℕ} (before after : List ℕ) (k : ℕ) → k < size → size ≡ part_word start p size_in_part → table ≡ part_word start p table_in_part →
       ClosedTo k before → HaltTried table size k marked before after → ClosedTo (k + 1) after
@@ -252,13 +249,6 @@ module _ (start : List ℕ) (wide : ℕ) where
   abbrev pub RisenTo : ℕ → List ℕ → Type 0
   RisenTo p mem = (m : Map) → LaidForTables m start → most_vertices ≤ wide → Risen m p start mem
 
-  pub risen_first : {count : ℕ} → count ≡ word start parts_in_head → RisenTo count start
-  risen_first count-is m L few = record {
-    sized = refl;
-    outside = λ x out. refl;
-    inside = record { honest = λ q i j low hq. absurd (omega (arith, L.parts)); inner = λ q i j w low hq. absurd (omega (arith, L.parts)) };
-  }
-
   pub risen_turn : {count q : ℕ} (before after : List ℕ) (p : ℕ) → q ≤ count → count ≡ word start parts_in_head → suc p ≡ q → RisenTo q before →
       ((m : Map) → LaidForTables m before → p < part_count m → most_vertices ≤ wide → Inside m (suc p) before → Risen m p before after) → RisenTo p after
   risen_turn before after p within count-is next done step m L few =
@@ -266,6 +256,3 @@ module _ (start : List ℕ) (wide : ℕ) where
       let K = laid_kept m start before A.sized A.outside L in
       let S = step m K (omega (arith, L.parts)) few (subst⁻¹ (λ (x : ℕ). Inside m x before) next A.inside) in
       record { sized = S.sized ∙ A.sized; outside = λ x out. S.outside x out ∙ A.outside x out; inside = S.inside }
-
-  pub risen_done : (mem : List ℕ) (p : ℕ) → p ≤ 0 → RisenTo p mem → (m : Map) → LaidForTables m start → most_vertices ≤ wide → Risen m 0 start mem
-  risen_done mem p none done m L few = subst (λ (n : ℕ). Risen m n start mem) (omega arith) (done m L few)

@@ -2,7 +2,7 @@
 -- Assumes nothing.
 use mathlib.Core.Path.{◌≡◌, sym, ap, ◌∙◌, subst, subst⁻¹}
 use mathlib.Core.Logic.{◌⊎◌, inl, inr}
-use mathlib.Core.Bool.{Bool, true, false, true≢false}
+use mathlib.Core.Bool.{Bool}
 use mathlib.Core.List.{List}
 use Prim.Native.Nat.{ℕ, suc, ◌+◌, ◌*◌, ◌≤◌, ◌<◌}
 use native.Mathlib.Nat.{eq-or-lt_of_le}
@@ -10,7 +10,7 @@ use native.Mathlib.Decide.{dec_lt, ℕ_discrete}
 use native.Mathlib.Numerals.{add-one}
 use native.Mathlib.Omega.{arith}
 use borrow.Author.Tests.{lt-ltb, le-ltb}
-use lib.ListN.{length, get_or, set, length-set, get_or-eq_default}
+use lib.ListN.{length, get_or, set}
 use lib.Seq.{get_or-set_same, get_or-set_other}
 use Rattle.words.specs.Limits.{most_vertices, most_borders}
 use Rattle.words.specs.Lists.{word, place_in}
@@ -50,9 +50,6 @@ module _ (mem : List ℕ) (p wide : ℕ) where
   abbrev pub NotedTo : ℕ → List ℕ → Type 0
   NotedTo i place = (m : Map) → LaidForTables m mem → p < part_count m → most_vertices ≤ wide → Noted m p i place
 
-  pub noted_first : (place : List ℕ) → NotedTo 0 place
-  noted_first place m L hp few = record { each = λ i h. absurd (omega arith) }
-
   pub noted_turn : {size first mark v at : ℕ} (place : List ℕ) {after : List ℕ} (i : ℕ) → i < size → size ≡ part_word mem p size_in_part → length place ≡ wide → NotedTo i place →
       first ≡ part_word mem p rows_in_part → mark ≡ row_word mem first i own_in_row → ((u d : ℕ) → u < child_in_row → mark ≡ u + child_in_row * d → v ≡ u) →
       at ≡ v → after ≡ set place at i → NotedTo (i + 1) after
@@ -73,10 +70,6 @@ module _ (mem : List ℕ) (p wide : ℕ) where
 
       own : at ≡ row_vertex m p i
       own = at_is ∙ shown_vertex m mem L p i hp fits first_is shown reads
-
-  pub noted_done : {size : ℕ} (place : List ℕ) (i : ℕ) → i ≤ size → size ≤ i → size ≡ part_word mem p size_in_part → NotedTo i place → (m : Map) → LaidForTables m mem → p < part_count m →
-      most_vertices ≤ wide → Noted m p (size_of m p) place
-  noted_done place i within all size_is done m L hp few = subst (λ (n : ℕ). Noted m p n place) (omega (arith, (L.part p hp).size)) (done m L hp few)
 
 -- ---- the first road from a vertex
 
@@ -236,9 +229,6 @@ module _ (start place : List ℕ) (marks : List Bool) (p i from : ℕ) where
   abbrev pub RoadsTo : ℕ → List ℕ → List Bool → Type 0
   RoadsTo r mem marked = (m : Map) → LaidForTables m start → p < part_count m → i < size_of m p → Noted m p (size_of m p) place → most_borders ≤ length marks → RoadsOf m p i from r start mem marks marked
 
-  pub roads_first : RoadsTo from start marks
-  roads_first m L hp hi N _ = roads_none (λ r k j of _ _ _. omega (arith, of.1, of.2))
-
   pub roads_turn : {first mark v end : ℕ} (before after : List ℕ) (marked marked' : List Bool) (r : ℕ) → length marked ≡ length marks → r < end →
       first ≡ part_word start p rows_in_part → mark ≡ row_word start first i own_in_row → ((u d : ℕ) → u < child_in_row → mark ≡ u + child_in_row * d → v ≡ u) →
       ((m : Map) → LaidForTables m start → v + 1 ≤ m.vertices → end ≡ first_road_from m (v + 1)) → RoadsTo r before marked →
@@ -281,9 +271,6 @@ module _ (start place : List ℕ) (marks : List Bool) (p : ℕ) where
   abbrev pub RowsTaken : ℕ → List ℕ → List Bool → Type 0
   RowsTaken i mem marked = (m : Map) → LaidForTables m start → p < part_count m → Noted m p (size_of m p) place → most_borders ≤ length marks → Roads m p i start mem marks marked
 
-  pub taken_first : RowsTaken 0 start marks
-  taken_first m L hp N _ = roads_none (λ r i j of _ _ _. omega arith)
-
   pub taken_turn : {size : ℕ} (before after : List ℕ) (marked marked' : List Bool) (i : ℕ) → length marked ≡ length marks → i < size → size ≡ part_word start p size_in_part → RowsTaken i before marked →
       ((m : Map) → LaidForTables m before → p < part_count m → i < size_of m p → Noted m p (size_of m p) place → most_borders ≤ length marked → RoadsOf m p i 0 (road_count m) before after marked marked') → RowsTaken (i + 1) after marked'
   taken_turn before after marked marked' i long hi size_is done row m L hp N wide =
@@ -295,25 +282,3 @@ module _ (start place : List ℕ) (marks : List Bool) (p : ℕ) where
   pub taken_done : {size : ℕ} (mem : List ℕ) (marked : List Bool) (i : ℕ) → i ≤ size → size ≤ i → size ≡ part_word start p size_in_part → RowsTaken i mem marked →
       (m : Map) → LaidForTables m start → p < part_count m → Noted m p (size_of m p) place → most_borders ≤ length marks → Roads m p (size_of m p) start mem marks marked
   taken_done mem marked i within all size_is done m L hp N wide = subst (λ (n : ℕ). Roads m p n start mem marks marked) (omega (arith, (L.part p hp).size)) (done m L hp N wide)
-
--- ---- marks
-
-pub mark_none : (marks : List Bool) {i j d e : ℕ} → d ≡ e → (d ≡ 0 → ⊥) → HaltsMarked marks i j d e marks
-mark_none marks same some = record { kept = λ k h. h; both = λ _ _ none. absurd (some (none same)) }
-
-pub mark_both : (marks : List Bool) {i j d e : ℕ} {one two : List Bool} → one ≡ set marks i true → two ≡ set one j true → HaltsMarked marks i j d e two
-mark_both marks {i} {j} one-is two_is = rw (two_is, one-is) (record {
-  kept = λ k h. mark_kept (set marks i true) j k (mark_kept marks i k h);
-  both = λ hi hj _. (mark_kept (set marks i true) j i (get_or-set_same marks i true false hi), get_or-set_same (set marks i true) j true false (omega (arith, length-set marks i true)));
-})
-  where
-    mark_kept : (l : List Bool) (a k : ℕ) → get_or l k false ≡ true → get_or (set l a true) k false ≡ true
-    mark_kept l a k h = elim (ℕ_discrete k a) [
-      | yes same ↦ elim (dec_lt a (length l)) [
-        | yes inside ↦ subst⁻¹ (λ (x : ℕ). get_or (set l a true) x false ≡ true) same (get_or-set_same l a true false inside)
-        | no past ↦
-            let none : get_or l a false ≡ false = get_or-eq_default l false (omega (arith, past)) in
-            absurd (true≢false (sym h ∙ ap (λ (x : ℕ). get_or l x false) same ∙ none))
-      ]
-      | no other ↦ get_or-set_other l a k true false other ∙ h
-    ]

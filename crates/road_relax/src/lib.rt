@@ -10,7 +10,7 @@ use cells::wide;
 use layout::RoadRecord;
 use waiting::Waiting;
 
-// The road at `at`, which leaves `u`, is relaxed.
+// The road at `at`, which leaves `u`, is relaxed. The labels are lent apart from the waiting vertices: they are the C caller's own array.
 fn relax_road(mem: &[u32], at: usize, u: usize, labels: &mut [u32; 4096], waiting: &mut Waiting)
     requires leaves { Leaves mem.now at u }
     requires labels_len { length labels.old ≡ most_vertices }

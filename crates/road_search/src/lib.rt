@@ -63,6 +63,7 @@ impl Roads<'_> {
 }
 
 // The labels become the distances from `a` over the roads that `mem` shows: they are 0 at `a` and FAR elsewhere, and fall turn after turn until no vertex waits.
+// Each number is a parameter of its own, as in the C interface.
 pub fn distances(
     mem: &[u32],
     vertices_at: usize,

@@ -8,7 +8,7 @@ use native.Mathlib.Omega.{arith}
 use Rattle.roads.specs.Map.{Map, part_count}
 use Rattle.parts.specs.Size.{size_of}
 use Rattle.assembly.specs.Laid.{LaidForTables}
-use Rattle.assembly.specs.Steps.{RowIn, AgreedPair, AgreedRow}
+use Rattle.assembly.specs.Steps.{AgreedPair, AgreedRow}
 use Rattle.assembly.proofs.Places.{laid_kept}
 use Rattle.assembly.proofs.Pairs.{Lines, agreed_none, agreed_then}
 use Rattle.table_words.specs.declared.PartRows.{PartRows}
@@ -26,10 +26,6 @@ lines_of own stands = record {
   first_below_is = stands.rows.first;
   line_below_is = rw (stands.rows.table, stands.rows.nodes, stands.row);
 }
-
--- no child holds the vertex of row i
-pub row_alone : {m : Map} {low p i n : ℕ} {mem : List ℕ} → ((c : ℕ) → RowIn m p i c → ⊥) → AgreedRow m low p i n mem mem
-row_alone {m} {p = p} alone = agreed_none (λ d k l of _ _ dk _. alone d (subst (λ (n : ℕ). RowIn m p n d) of.0 dk))
 
 module _ (start : List ℕ) (rows : PartRows) (i : ℕ) (below : Below) where
   abbrev pub RowTo : ℕ → List ℕ → Type 0

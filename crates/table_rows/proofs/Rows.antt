@@ -14,7 +14,7 @@ use borrow.Author.Tests.{eq-eqb, ne_eqb}
 use lib.ListN.{length, get_or, set, take, drop, replicate, length-take, length-drop, length-replicate, length-set}
 use lib.Seq.{get_or-take, get_or-drop, get_or-set_same, get_or-set_other}
 use Rattle.words.specs.Limits.{most_borders, FAR}
-use Rattle.table_rows.specs.Flat.{entry, through, blank, Holds, RowIs, Begins, StartsWith, Becomes, Tried, Blanked}
+use Rattle.table_rows.specs.Flat.{entry, through, blank, Holds, RowIs, Begins, StartsWith, Becomes, Tried}
 
 -- ---- a part of a list put back
 
@@ -42,27 +42,6 @@ module _ (words : List ℕ) (from to : ℕ) (rising : from ≤ to) (inside : to 
       pub put_length : length (put_mid from (to - from) words new) ≡ length words
       put_length = same_len_mid from (to - from) words new (sized ∙ sym part_length)
 
--- ---- the words of a row
-
-pub begins_none : (f : ℕ → ℕ) (start : List ℕ) → Begins 0 f start start
-begins_none f start = record { sized = refl; each = λ j h. absurd (omega arith); rest = λ j h. refl }
-
-module _ {f : ℕ → ℕ} {start words : List ℕ} {i : ℕ} (s : Begins i f start words) where
-  pub begins_more : i < length start → {v : ℕ} → v ≡ f i → Begins (i + 1) f start (set words i v)
-  begins_more h {v} e = record {
-    sized = simp length-set s.sized;
-    each = λ j hj. elim (eq-or-lt_of_le hj) [
-      | inl q ↦
-          let same : j ≡ i = omega arith in
-          rw same (get_or-set_same words i v 0 (omega (arith, s.sized)) ∙ e)
-      | inr l ↦ get_or-set_other words i j v 0 (λ same. omega arith) ∙ s.each j (omega arith)
-    ];
-    rest = λ j hj. get_or-set_other words i j v 0 (λ same. omega arith) ∙ s.rest j (omega arith);
-  }
-
-  pub begins_all : {n : ℕ} → i ≤ n → n ≤ i → Begins n f start words
-  begins_all within all = record { sized = s.sized; each = λ j h. s.each j (omega arith); rest = λ j h. s.rest j (omega arith) }
-
 -- ---- the rows of a table
 
 -- a row ends before a later one starts
@@ -75,14 +54,6 @@ pub record Filling (count n : ℕ) (F : ℕ → ℕ → ℕ) (start words : List
   pub sized : length words ≡ length start
   pub done : (a b : ℕ) → a < i → b < n → entry n words a b ≡ F a b
   pub left : (a b : ℕ) → i ≤ a → a < count → b < n → entry n words a b ≡ entry n start a b
-
-pub filling_first : (count n : ℕ) (F : ℕ → ℕ → ℕ) (start : List ℕ) → n * count ≤ length start → Filling count n F start start 0
-filling_first count n F start e = record {
-  fits = e;
-  sized = refl;
-  done = λ a b h. absurd (omega arith);
-  left = λ a b _ _ _. refl;
-}
 
 module _ {count n : ℕ} {F : ℕ → ℕ → ℕ} {start words : List ℕ} {i : ℕ} (s : Filling count n F start words i) where
   pub filling_room : i < count → n * i + n ≤ length words
@@ -140,12 +111,8 @@ module _ {count n : ℕ} {F : ℕ → ℕ → ℕ} {start words : List ℕ} {i :
 -- ---- one node tried
 
 module _ {n k : ℕ} {start words : List ℕ} {i : ℕ} (s : Filling n n (through k (entry n start)) start words i) where
-  -- row i is relaxed by a row that starts with row k
   module _ (hi : i < n) (hk : k < n) where
     module _ {row : List ℕ} (copied : StartsWith n k start row) where
-      pub relax_fits : length (take (n * i + n - n * i) (drop (n * i) words)) ≤ length row
-      relax_fits = omega (arith, filling_length s hi, copied.fits)
-
       pub relaxed_row : {new : List ℕ} →
           Begins (length (take (n * i + n - n * i) (drop (n * i) words))) (λ j. min (get_or (take (n * i + n - n * i) (drop (n * i) words)) j 0) (get_or words (n * i + k) 0 + get_or row j 0)) (take (n * i + n - n * i) (drop (n * i) words)) new →
           RowIs n (through k (entry n start) i) new
@@ -154,23 +121,6 @@ module _ {n k : ℕ} {start words : List ℕ} {i : ℕ} (s : Filling n n (throug
         sized = e.sized ∙ filling_length s hi;
         each = λ b hb. e.each b (omega (arith, filling_length s hi)) ∙ rw (filling_at s hi b hb, copied.each b hb, s.left i k (omega arith) hi hk);
       }
-
--- the row that is copied first
-module _ {n k : ℕ} (words : List ℕ) (hk : k < n) (fits : n * n ≤ length words) where
-  pub copy_room : n * k + n ≤ length words
-  copy_room = omega (arith, rows_apart n hk)
-
-  pub copy_length : length (take (n * k + n - n * k) (drop (n * k) words)) ≡ n
-  copy_length = part_length words (n * k) (n * k + n) (omega arith) copy_room ∙ omega arith
-
-  -- it is written at the start of a row that is no shorter
-  pub copy_starts : (row : List ℕ) → n ≤ length row → StartsWith n k words (put_mid 0 (n - 0) row (take (n * k + n - n * k) (drop (n * k) words)))
-  copy_starts row wide = record {
-    fits = omega (arith, put_length row 0 n (omega arith) wide (take (n * k + n - n * k) (drop (n * k) words)) (omega (arith, copy_length)));
-    each = λ j hj.
-        search (rules, places)
-        ∙ part_at words (n * k) (n * k + n) (omega arith) copy_room j (omega arith);
-  }
 
 -- ---- a table blanked
 
@@ -238,10 +188,4 @@ module _ (mem : List ℕ) (at n : ℕ) (fits : at + n * n ≤ length mem) (new :
     sized = lent_length mem at n (through k) fits new same;
     tried = λ _ _ _. becomes mem at n (through k) fits new same
         (λ i j hi hj. H.each i j hi hj ∙ through_same n k (entry n (take (at + n * n - at) (drop at mem))) (λ a b. get_or mem (at + (n * a + b)) 0) hk (lent_at mem at n fits) i j hi hj);
-  }
-
-  pub blanked_there : Holds n n new blank → Blanked at n mem (put_mid at (at + n * n - at) mem new)
-  blanked_there H = record {
-    sized = lent_length mem at n (λ T. blank) fits new same;
-    blanked = λ _ _. becomes mem at n (λ T. blank) fits new same H.each;
   }

@@ -20,6 +20,7 @@ fn relax_row(best: &mut [u32], row: &[u32], x: u32)
     if x == FAR {
         return;
     }
+    // by its index: of a `zip` with `iter_mut` the proof knows no word afterwards
     for (j, least) in best.iter_mut().enumerate() {
         *least = x.saturating_add(row[j]).min(*least);
     }
@@ -30,6 +31,7 @@ fn try_rows(table: &mut [u32], n: usize, k: usize, row: &[u32])
     requires { (k < n) × (n ≤ most_borders) × (n * n ≤ length table.old) × StartsWith n k table.old row.now }
     ensures { Holds n n table.new (through k (entry n table.old)) }
 {
+    // by its index: of `chunks_exact_mut` the proof knows no word afterwards
     for i in 0..n {
         let at = n * i;
         let x = table[at + k];
