@@ -5,12 +5,13 @@ use mathlib.Core.Path.{◌≡◌}
 use mathlib.Core.Bool.{true}
 use mathlib.Core.List.{List}
 use Prim.Native.Nat.{ℕ}
+use Rattle.std.specs.Prelude.{Result}
 use Rattle.words.specs.Lists.{word}
 use Rattle.fleet.specs.declared.Change.{Change}
 use Rattle.fleet.specs.Look.{Look}
 use Rattle.fleet.specs.Change.{in_range}
 use Rattle.fleet.specs.Question.{question_in_range}
-use Rattle.answers.specs.declared.Reply.{Reply}
+use Rattle.answers.specs.declared.Refusal.{Refusal}
 use Rattle.answers.specs.Answered.{answered}
 use Rattle.answers.proofs.Determined.{answered_same}
 use Rattle.calls.specs.Outcome.{Opened, Changed, Asked, Looked}
@@ -63,7 +64,7 @@ distance_of_run = ways.distance_of_run
 
 -- Any two outcomes that a contract allows are equal, the reply of the code and what the call leaves behind: of an opening always, and of a change, of a
 -- question and of a lookup where the memory has no opened head, a number is out of its range, or the memory shows a map and a fleet.
-module _ (r t : Reply) (k l : List ℕ) where
+module _ (r t : Result ℕ Refusal) (k l : List ℕ) where
   pub open_determined : (bytes mem : List ℕ) (start : ℕ) → Opened bytes mem start (answered r) k → Opened bytes mem start (answered t) l → (r ≡ t) × (k ≡ l)
   open_determined bytes mem start x y =
       let same = determined.opening_determined bytes mem start (answered r) (answered t) k l x y in (answered_same r t same.0, same.1)
@@ -78,7 +79,7 @@ module _ (r t : Reply) (k l : List ℕ) where
       let same = determined.question_determined x n mem out known (answered r) (answered t) k l u v in (answered_same r t same.0, same.1)
 
 -- A lookup leaves nothing behind but its reply.
-pub look_determined : (r t : Reply) (l : Look) (mem : List ℕ) → Determinate mem true → Looked l mem (answered r) → Looked l mem (answered t) → r ≡ t
+pub look_determined : (r t : Result ℕ Refusal) (l : Look) (mem : List ℕ) → Determinate mem true → Looked l mem (answered r) → Looked l mem (answered t) → r ≡ t
 look_determined r t l mem known x y = answered_same r t (determined.look_determined l mem known (answered r) (answered t) x y)
 
 -- Whatever part of its memory is lent, a run has no other memory than that.

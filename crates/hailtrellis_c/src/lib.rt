@@ -19,8 +19,8 @@ pub struct HailtrellisReply {
 fn replied(reply: Reply) -> HailtrellisReply
     ensures { result ≡ reply_of (answered reply) }
 {
-    let code = reply.number();
-    let value = reply.value();
+    let code = answers::number(reply);
+    let value = answers::value(reply);
     HailtrellisReply { code, value }
 }
 
