@@ -1,7 +1,7 @@
 -- `take` moves the last of those that wait.
 -- Assumes nothing.
 use mathlib.Core.Path.{refl, sym, ap, ◌∙◌}
-use Prim.Native.Nat.{ℕ, ◌-◌, ◌%◌}
+use Prim.Native.Nat.{◌-◌, ◌%◌}
 use native.Mathlib.Numerals.{add-one}
 use lib.ListN.{get_or, set}
 use Rattle.std.specs.Prelude.{map}
