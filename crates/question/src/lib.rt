@@ -86,7 +86,7 @@ fn search_with(mem: &[u32], x: u32, k: usize, dx: &mut [u32]) -> BestList
     let mut search = Search {
         waiting: PartsWaiting {
             keys: [FAR; 512],
-            waits: [0; 512],
+            waits: [FAR; 512],
             n: 0,
         },
         lists: RowLists {

@@ -21,7 +21,7 @@ search_at-requires c = record {
   no_distance = c.requires.2;
   keys_length = length-replicate {A = ℕ} 512 FAR;
   no_key = λ q h. get_or-replicate 512 q FAR 0 h;
-  waits_length = length-replicate {A = ℕ} 512 0;
+  waits_length = length-replicate {A = ℕ} 512 FAR;
   none_waits = refl;
   none_listed = ap (λ (b : Best). b.offers) c.new.ensures;
 }
