@@ -49,17 +49,17 @@ module _ (mem : List ℕ) (p wide : ℕ) where
   abbrev pub NotedTo : ℕ → List ℕ → Type 0
   NotedTo i place = (m : Map) → LaidForTables m mem → p < part_count m → most_vertices ≤ wide → Noted m p i place
 
-  pub noted_turn : {size first mark v at : ℕ} (place : List ℕ) {after : List ℕ} (i : ℕ) → i < size → size ≡ part_word mem p size_in_part → length place ≡ wide → NotedTo i place →
+  pub noted_turn : {size first mark v : ℕ} (place : List ℕ) {after : List ℕ} (i : ℕ) → i < size → size ≡ part_word mem p size_in_part → length place ≡ wide → NotedTo i place →
       first ≡ part_word mem p rows_in_part → mark ≡ row_word mem first i own_in_row → ((u d : ℕ) → u < child_in_row → mark ≡ u + child_in_row * d → v ≡ u) →
-      at ≡ v → after ≡ set place at i → NotedTo (i + 1) after
-  noted_turn {v = v} {at = at} place {after} i hi size_is long done first_is shown reads at_is put m L hp few =
+      after ≡ set place v i → NotedTo (i + 1) after
+  noted_turn {v = v} place {after} i hi size_is long done first_is shown reads put m L hp few =
       record {
         each = λ k hk. ap (λ (l : List ℕ). get_or l (row_vertex m p k) 0) put ∙ elim (eq-or-lt_of_le hk) [
           | inl q ↦
               let same : k ≡ i = omega arith in
-              rw same (rw (← own) (get_or-set_same place at i 0 (omega (arith, own, row_real m p i fits, L.sound.vertices.1))))
+              rw same (rw (← own) (get_or-set_same place v i 0 (omega (arith, own, row_real m p i fits, L.sound.vertices.1))))
           | inr less ↦
-              get_or-set_other place at (row_vertex m p k) i 0 (λ same. omega (arith, row_differ m p k i (omega (arith, fits)) fits (same ∙ own)))
+              get_or-set_other place v (row_vertex m p k) i 0 (λ same. omega (arith, row_differ m p k i (omega (arith, fits)) fits (same ∙ own)))
               ∙ (done m L hp few).each k (omega arith)
         ];
       }
@@ -67,8 +67,8 @@ module _ (mem : List ℕ) (p wide : ℕ) where
       fits : i < size_of m p
       fits = omega (arith, (L.part p hp).size)
 
-      own : at ≡ row_vertex m p i
-      own = at_is ∙ shown_vertex m mem L p i hp fits first_is shown reads
+      own : v ≡ row_vertex m p i
+      own = shown_vertex m mem L p i hp fits first_is shown reads
 
 -- ---- the first road from a vertex
 
@@ -117,15 +117,15 @@ module _ (mem place marks : List ℕ) (m : Map) (L : LaidForTables m mem) (p i r
   pub road_from_another : {from v : ℕ} → from ≡ (road_at m r).from → v ≡ row_vertex m p i → (from ≡ v → ⊥) → RoadsOf m p i r (suc r) mem mem marks marks
   road_from_another from_is v_is other = road_none (λ j hj starts ends. other (from_is ∙ starts ∙ sym v_is))
 
-  noted_is : {to at j : ℕ} → to ≡ (road_at m r).to → at ≡ to → j ≡ get_or place at 0 → (k : ℕ) → k < size_of m p → (road_at m r).to ≡ row_vertex m p k → j ≡ k
-  noted_is to_is at_is shown k hk ends = shown ∙ ap (λ (x : ℕ). get_or place x 0) (at_is ∙ to_is ∙ ends) ∙ N.each k hk
+  noted_is : {to j : ℕ} → to ≡ (road_at m r).to → j ≡ get_or place to 0 → (k : ℕ) → k < size_of m p → (road_at m r).to ≡ row_vertex m p k → j ≡ k
+  noted_is to_is shown k hk ends = shown ∙ ap (λ (x : ℕ). get_or place x 0) (to_is ∙ ends) ∙ N.each k hk
 
-  pub road_past : {to at j size : ℕ} → to ≡ (road_at m r).to → at ≡ to → j ≡ get_or place at 0 → size ≡ part_word mem p size_in_part → size ≤ j → RoadsOf m p i r (suc r) mem mem marks marks
-  road_past to_is at_is shown size_is past = road_none (λ k hk starts ends. omega (arith, noted_is to_is at_is shown k hk ends, (L.part p hp).size))
+  pub road_past : {to j size : ℕ} → to ≡ (road_at m r).to → j ≡ get_or place to 0 → size ≡ part_word mem p size_in_part → size ≤ j → RoadsOf m p i r (suc r) mem mem marks marks
+  road_past to_is shown size_is past = road_none (λ k hk starts ends. omega (arith, noted_is to_is shown k hk ends, (L.part p hp).size))
 
-  pub road_to_another : {to at j v : ℕ} → to ≡ (road_at m r).to → at ≡ to → j ≡ get_or place at 0 → (j < size_of m p → v ≡ row_vertex m p j) → (to ≡ v → ⊥) → RoadsOf m p i r (suc r) mem mem marks marks
-  road_to_another {j = j} to_is at_is shown v_is other = road_none (λ k hk starts ends.
-      let same = noted_is to_is at_is shown k hk ends in
+  pub road_to_another : {to j v : ℕ} → to ≡ (road_at m r).to → j ≡ get_or place to 0 → (j < size_of m p → v ≡ row_vertex m p j) → (to ≡ v → ⊥) → RoadsOf m p i r (suc r) mem mem marks marks
+  road_to_another {j = j} to_is shown v_is other = road_none (λ k hk starts ends.
+      let same = noted_is to_is shown k hk ends in
       other (to_is ∙ ends ∙ ap (row_vertex m p) (sym same) ∙ sym (v_is (subst⁻¹ (λ (x : ℕ). x < size_of m p) same hk))))
 
   -- it leads from row i to row j
@@ -174,10 +174,10 @@ abbrev pub ByRoad : List ℕ → List ℕ → ℕ → ℕ → ℕ → List ℕ �
 ByRoad mem place p i r after marks marked =
     (m : Map) → LaidForTables m mem → p < part_count m → i < size_of m p → r < road_count m → Noted m p (size_of m p) place → most_borders ≤ length marks → RoadsOf m p i r (suc r) mem after marks marked
 
-module _ (mem place marks : List ℕ) (p i r : ℕ) {counts : Counts} {road size first table from to weight at j mark u : ℕ} (counts_is : counts ≡ counts_in mem) (road_is : road ≡ road_address counts r)
+module _ (mem place marks : List ℕ) (p i r : ℕ) {counts : Counts} {road size first table from to weight j mark u : ℕ} (counts_is : counts ≡ counts_in mem) (road_is : road ≡ road_address counts r)
     (size_is : size ≡ part_word mem p size_in_part) (first_is : first ≡ part_word mem p rows_in_part) (table_is : table ≡ part_word mem p table_in_part)
     (from_is : from ≡ word mem road) (to_is : to ≡ word mem (road + to_in_road)) (weight_is : weight ≡ word mem (road + weight_in_road))
-    (at_is : at ≡ to) (j-is : j ≡ get_or place at 0) (mark_is : mark ≡ row_word mem first i own_in_row) (reads : (v d : ℕ) → v < child_in_row → mark ≡ v + child_in_row * d → u ≡ v) where
+    (j-is : j ≡ get_or place to 0) (mark_is : mark ≡ row_word mem first i own_in_row) (reads : (v d : ℕ) → v < child_in_row → mark ≡ v + child_in_row * d → u ≡ v) where
   there : (m : Map) → LaidForTables m mem → road ≡ roads_at m + words_in_road * r
   there m L = omega (arith, roads_start m, L.parts, L.vertices, road_is, ap (λ (c : Counts). road_address c r) counts_is)
 
@@ -194,12 +194,12 @@ module _ (mem place marks : List ℕ) (p i r : ℕ) {counts : Counts} {road size
   by_another other m L hp hi hr N _ = road_from_another mem place marks m L p i r hp hi hr N (starts_at m L hr) (shown_vertex m mem L p i hp hi first_is mark_is reads) other
 
   pub by_none : size ≤ j → ByRoad mem place p i r mem marks marks
-  by_none past m L hp hi hr N _ = road_past mem place marks m L p i r hp hi hr N (ends_at m L hr) at_is j-is size_is past
+  by_none past m L hp hi hr N _ = road_past mem place marks m L p i r hp hi hr N (ends_at m L hr) j-is size_is past
 
   module _ {mark' v : ℕ} (mark'-is : mark' ≡ row_word mem first j own_in_row) (reads' : (w d : ℕ) → w < child_in_row → mark' ≡ w + child_in_row * d → v ≡ w) where
     pub by_other : (to ≡ v → ⊥) → ByRoad mem place p i r mem marks marks
     by_other other m L hp hi hr N _ =
-        road_to_another mem place marks m L p i r hp hi hr N (ends_at m L hr) at_is j-is (λ hj. shown_vertex m mem L p j hp hj first_is mark'-is reads') other
+        road_to_another mem place marks m L p i r hp hi hr N (ends_at m L hr) j-is (λ hj. shown_vertex m mem L p j hp hj first_is mark'-is reads') other
 
     pub by_own : {line column d e : ℕ} {after marked : List ℕ} → from ≡ u → j < size → to ≡ v → line ≡ table + size * i → column ≡ j → after ≡ lowered mem (line + column) weight →
         ((w x : ℕ) → w < child_in_row → mark ≡ w + child_in_row * x → d ≡ x) → ((w x : ℕ) → w < child_in_row → mark' ≡ w + child_in_row * x → e ≡ x) → HaltsMarked marks i j d e marked → ByRoad mem place p i r after marks marked

@@ -7,7 +7,7 @@ ghost use Rattle.std.proofs.Common.{lit≤};
 ghost use Rattle.words.specs.Lists.{word};
 ghost use Rattle.layout.specs.Layout.{words_in_part, words_in_vertex, words_in_road, words_in_van, words_in_row, part_word, row_word};
 
-use cells::{wide, word};
+use cells::word;
 
 // A kind of record, of which a section has one after the other: how many words each has.
 pub trait Record {
@@ -23,7 +23,7 @@ pub fn record_word<R: Record>(mem: &[u32], first: usize, i: u32, w: usize) -> u3
     requires { (first < 2 ^ 63) × (w < R.WORDS) }
     ensures { result ≡ word mem.now (first + R.WORDS * i + w) }
 {
-    word(mem, first + R::WORDS * wide(i) + w)
+    word(mem, first + R::WORDS * i as usize + w)
 }
 
 // The head: the memory's first words.
@@ -202,5 +202,5 @@ pub fn row_word(mem: &[u32], first: u32, i: u32, w: usize) -> u32
     requires { w < words_in_row }
     ensures { result ≡ row_word mem.now first i w }
 {
-    record_word::<RowRecord>(mem, wide(first), i, w)
+    record_word::<RowRecord>(mem, first as usize, i, w)
 }

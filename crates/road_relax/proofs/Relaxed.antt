@@ -37,29 +37,28 @@ module _ (r : Road) (labels keys : List ℕ) where
       let least : min (label labels r.to) (offer r labels) ≡ label labels r.to = omega arith in
       (rw (least, set-get_or labels r.to FAR), rw (le-ltb (offer r labels) (label labels r.to) no_less))
 
--- what the code reads of a road and its ends: `to` and `weight`, and the labels `near` and `far` of the two ends
-pub record Seen (mem labels : List ℕ) (at u to near weight far : ℕ) : Type 0 where
+-- what the code reads of a road and its ends: its `weight`, and the labels `near` and `far` of the two ends
+pub record Seen (mem labels : List ℕ) (at u near weight far : ℕ) : Type 0 where
   pub leaves : Leaves mem at u
   pub sized : length labels ≡ most_vertices
-  pub to_is : to ≡ word mem (at + 1)
   pub near_is : near ≡ word labels u
   pub weight_is : weight ≡ word mem (at + 2)
-  pub far_is : far ≡ word labels to
+  pub far_is : far ≡ word labels (word mem (at + 1))
 
-module _ (mem labels keys : List ℕ) (at u to near weight far : ℕ) (seen : Seen mem labels at u to near weight far) where
+module _ (mem labels keys : List ℕ) (at u near weight far : ℕ) (seen : Seen mem labels at u near weight far) where
   offer_is : near + weight ≡ offer (shown_road mem at) labels
   offer_is =
       rw (seen.near_is, seen.weight_is, seen.leaves.from_u, get_d_there labels u 0 FAR (omega (arith, seen.sized, seen.leaves.from_below)))
 
   far_is_label : far ≡ label labels (word mem (at + 1))
   far_is_label =
-      rw (seen.far_is, seen.to_is, get_d_there labels (word mem (at + 1)) 0 FAR (omega (arith, seen.sized, seen.leaves.to_below)))
+      rw (seen.far_is, get_d_there labels (word mem (at + 1)) 0 FAR (omega (arith, seen.sized, seen.leaves.to_below)))
 
   pub stored : near + weight < far
-      → (set labels to (near + weight) ≡ relax (shown_road mem at) labels) × (set keys to (near + weight) ≡ wake (shown_road mem at) labels keys)
+      → (set labels (word mem (at + 1)) (near + weight) ≡ relax (shown_road mem at) labels) × (set keys (word mem (at + 1)) (near + weight) ≡ wake (shown_road mem at) labels keys)
   stored less =
       let both = taken (shown_road mem at) labels keys (omega (arith, offer_is, far_is_label)) in
-      (rw (both.0, seen.to_is, offer_is), rw (both.1, seen.to_is, offer_is))
+      (rw (both.0, offer_is), rw (both.1, offer_is))
 
   pub passed : far ≤ near + weight → (labels ≡ relax (shown_road mem at) labels) × (keys ≡ wake (shown_road mem at) labels keys)
   passed no_less =

@@ -6,7 +6,6 @@ ghost use Rattle.words.specs.Limits.{most_vertices};
 ghost use Rattle.roads.specs.Dist.{relax, relax_all};
 ghost use Rattle.road_relax.specs.Relaxing.{shown_road, shown_roads, Leaves, Fan, wake, wake_all};
 
-use cells::wide;
 use layout::RoadRecord;
 use waiting::Waiting;
 
@@ -17,7 +16,7 @@ fn relax_road(mem: &[u32], at: usize, u: usize, labels: &mut [u32; 4096], waitin
     ensures labels_after { labels.new ≡ relax (shown_road mem.now at) labels.old }
     ensures keys_after { waiting.new ≡ wake (shown_road mem.now at) labels.old waiting.old }
 {
-    let to = wide(mem[at + RoadRecord::TO]);
+    let to = mem[at + RoadRecord::TO] as usize;
     let offer = u64::from(labels[u]) + u64::from(mem[at + RoadRecord::WEIGHT]);
     if offer < u64::from(labels[to]) {
         let label = offer as u32;

@@ -8,7 +8,6 @@ ghost use Rattle.roads.specs.Dist.{relax_all};
 ghost use Rattle.road_relax.specs.Relaxing.{wake_all};
 ghost use Rattle.road_search.specs.Layout.{LaidMap, Measured, next_out, roads_out};
 
-use cells::wide;
 use far_sums::FAR;
 use layout::{RoadRecord, VertexRecord};
 use road_relax::relax_out;
@@ -32,9 +31,9 @@ impl Roads<'_> {
         ensures { result ≡ next_out self.now.mem.now self.now.vertices_at self.now.n self.now.count u }
     {
         if u + 1 < self.n {
-            return wide(
-                self.mem[self.vertices_at + VertexRecord::WORDS * (u + 1) + VertexRecord::ROADS],
-            );
+            return self.mem[self.vertices_at
+                + VertexRecord::WORDS * (u + 1)
+                + VertexRecord::ROADS] as usize;
         }
         self.count
     }
@@ -47,9 +46,9 @@ impl Roads<'_> {
         ensures keys_after { waiting.new ≡ wake_all (roads_out self.now.mem.now self.now.vertices_at self.now.n self.now.roads_at self.now.count u) labels.old (set waiting.old u FAR) }
     {
         waiting.take(u);
-        let first = wide(
-            self.mem[self.vertices_at + VertexRecord::WORDS * u + VertexRecord::ROADS],
-        );
+        let first = self.mem[self.vertices_at
+            + VertexRecord::WORDS * u
+            + VertexRecord::ROADS] as usize;
         let next = self.next_out(u);
         relax_out(
             self.mem,

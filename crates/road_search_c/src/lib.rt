@@ -7,7 +7,6 @@ ghost use Rattle.road_search.specs.Layout.{first_out, LaidVertex, LaidRoad, Laid
 ghost use Rattle.road_relax.specs.Relaxing.{shown_road};
 ghost use Rattle.road_search_c.specs.Answer.{Answered};
 
-use cells::wide;
 use layout::{RoadRecord, VertexRecord};
 use road_search::distances;
 
@@ -29,7 +28,7 @@ impl Words<'_> {
         requires { v < self.now.n }
         ensures { result ≡ first_out self.now.mem.now self.now.vertices_at v }
     {
-        wide(self.mem[self.vertices_at + VertexRecord::WORDS * v + VertexRecord::ROADS])
+        self.mem[self.vertices_at + VertexRecord::WORDS * v + VertexRecord::ROADS] as usize
     }
 
     // Whether vertex `v` is laid out as a search needs it.
@@ -47,9 +46,9 @@ impl Words<'_> {
         ensures { IsTrue result ↔ LaidRoad self.now.mem.now self.now.vertices_at self.now.n j (shown_road self.now.mem.now (self.now.roads_at + words_in_road * j)) }
     {
         let at = self.roads_at + RoadRecord::WORDS * j;
-        let from = wide(self.mem[at + RoadRecord::FROM]);
+        let from = self.mem[at + RoadRecord::FROM] as usize;
         from < self.n
-            && wide(self.mem[at + RoadRecord::TO]) < self.n
+            && (self.mem[at + RoadRecord::TO] as usize) < self.n
             && self.mem[at + RoadRecord::WEIGHT] <= 1000000
             && self.first_out(from) <= j
             && (from + 1 == self.n || j < self.first_out(from + 1))

@@ -11,12 +11,12 @@ use Rattle.assembly.specs.Laid.{LaidForTables}
 use Rattle.assembly.specs.Steps.{AgreedPair, AgreedRow}
 use Rattle.assembly.proofs.Places.{laid_kept}
 use Rattle.assembly.proofs.Pairs.{Lines, agreed_none, agreed_then}
-use Rattle.table_words.specs.declared.PartRows.{PartRows}
+use Rattle.table_words.specs.declared.LaidRows.{LaidRows}
 use Rattle.table_words.specs.declared.Below.{Below}
 use Rattle.table_words.specs.Rows.{RowsOf, StandsBelow}
 
 -- where the words of row i and of its row below stand
-pub lines_of : {m : Map} {p i : ℕ} {rows : PartRows} {below : Below} → RowsOf m p rows → StandsBelow m p i below →
+pub lines_of : {m : Map} {p i : ℕ} {rows : LaidRows} {below : Below} → RowsOf m p rows → StandsBelow m p i below →
     Lines m p i below.part rows.table.nodes rows.first (rows.table.at + rows.table.nodes * i) below.rows.first (below.rows.table.at + below.rows.table.nodes * below.row)
 lines_of own stands = record {
   row_in_lem = stands.row_in;
@@ -27,7 +27,7 @@ lines_of own stands = record {
   line_below_is = rw (stands.rows.table, stands.rows.nodes, stands.row);
 }
 
-module _ (start : List ℕ) (rows : PartRows) (i : ℕ) (below : Below) where
+module _ (start : List ℕ) (rows : LaidRows) (i : ℕ) (below : Below) where
   abbrev pub RowTo : ℕ → List ℕ → Type 0
   RowTo j mem = (m : Map) (low p : ℕ) → LaidForTables m start → low ≤ p → p < part_count m → i < size_of m p → RowsOf m p rows → StandsBelow m p i below → AgreedRow m low p i j start mem
 

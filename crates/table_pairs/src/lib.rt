@@ -9,10 +9,10 @@ ghost use Rattle.assembly.specs.Steps.{AgreedPair, AgreedRow, Agreed};
 ghost use Rattle.table_words.specs.Rows.{RowsOf, StandsBelow};
 
 use layout::{PartRecord, RowRecord, part_word, row_word};
-use table_words::{Below, PartRows, level, part_of, place_of, row_below};
+use table_words::{Below, LaidRows, level, part_of, place_of, row_below};
 
 // Row j, where its vertex stands in the child that holds that of row i: the words of the two vertices in the part and in the child become the lesser.
-fn level_pair(mem: &mut [u32], rows: PartRows, i: u32, below: Below, j: u32)
+fn level_pair(mem: &mut [u32], rows: LaidRows, i: u32, below: Below, j: u32)
     ensures agreed_pair { (m : Map) (low p : ℕ) → LaidForTables m mem.old → low ≤ p → p < part_count m → i < size_of m p → j < size_of m p → RowsOf m p rows → StandsBelow m p i below → AgreedPair m low p i j mem.old mem.new }
     ensures mem_len_unchanged { length mem.new ≡ length mem.old }
 {
@@ -28,7 +28,7 @@ fn level_pair(mem: &mut [u32], rows: PartRows, i: u32, below: Below, j: u32)
 }
 
 // Row i, and the row of its vertex in the child that holds it.
-fn level_row(mem: &mut [u32], rows: PartRows, i: u32, below: Below)
+fn level_row(mem: &mut [u32], rows: LaidRows, i: u32, below: Below)
     ensures agreed_row { (m : Map) (low p : ℕ) → LaidForTables m mem.old → low ≤ p → p < part_count m → i < size_of m p → RowsOf m p rows → StandsBelow m p i below → AgreedRow m low p i (size_of m p) mem.old mem.new }
     ensures mem_len_unchanged { length mem.new ≡ length mem.old }
 {
@@ -42,7 +42,7 @@ fn agree_row(mem: &mut [u32], p: u32, i: u32)
     ensures agreed_row { (m : Map) (low : ℕ) → LaidForTables m mem.old → low ≤ p → p < part_count m → i < size_of m p → AgreedRow m low p i (size_of m p) mem.old mem.new }
     ensures mem_len_unchanged { length mem.new ≡ length mem.old }
 {
-    let rows = PartRows::of(mem, p);
+    let rows = LaidRows::of(mem, p);
     if let Some(below) = row_below(mem, rows.first, i) {
         level_row(mem, rows, i, below);
     }

@@ -8,21 +8,21 @@ ghost use Rattle.parts.specs.Size.{size_of};
 ghost use Rattle.assembly.specs.Laid.{LaidForTables};
 ghost use Rattle.assembly.specs.Steps.{Noted, HaltsMarked, RoadsOf, Roads};
 
-use cells::{lower, put, wide, word};
+use cells::{lower, put, word};
 use layout::{PartRecord, RoadRecord, RowRecord, part_word, row_word};
 use places::{counts_in, road_at};
 use road_lookup::first_road;
-use table_words::{PartRows, part_of, vertex_of};
+use table_words::{LaidRows, part_of, vertex_of};
 
 // The place of each row vertex of part p.
 pub fn note_rows(mem: &[u32], p: u32, place: &mut [u32])
     ensures noted { (m : Map) → LaidForTables m mem.now → p < part_count m → most_vertices ≤ length place.old → Noted m p (size_of m p) place.new }
     ensures place_len_unchanged { length place.new ≡ length place.old }
 {
-    let rows = PartRows::of(mem, p);
+    let rows = LaidRows::of(mem, p);
     for i in 0..rows.table.nodes {
         let v = vertex_of(row_word(mem, rows.first, i, RowRecord::OWN));
-        put(place, wide(v), i);
+        put(place, v as usize, i);
     }
 }
 
@@ -34,8 +34,8 @@ fn mark(marks: &mut [u32], i: u32, j: u32, d: u32, e: u32)
     if d == e && d != 0 {
         return;
     }
-    put(marks, wide(i), 1);
-    put(marks, wide(j), 1);
+    put(marks, i as usize, 1);
+    put(marks, j as usize, 1);
 }
 
 // Road r, where it leads from the vertex of row i of part p to that of another row. The noted place is tested.
@@ -45,11 +45,11 @@ fn lower_by_road(mem: &mut [u32], place: &[u32], marks: &mut [u32], p: u32, i: u
     ensures marks_len_unchanged { length marks.new ≡ length marks.old }
 {
     let road = road_at(counts_in(mem), r);
-    let rows = PartRows::of(mem, p);
+    let rows = LaidRows::of(mem, p);
     let from = word(mem, road);
     let to = word(mem, road + RoadRecord::TO);
     let weight = word(mem, road + RoadRecord::WEIGHT);
-    let j = word(place, wide(to));
+    let j = word(place, to as usize);
     let own = row_word(mem, rows.first, i, RowRecord::OWN);
     if from != vertex_of(own) {
         return;

@@ -6,7 +6,6 @@ ghost use Rattle.std.specs.Prelude.{◌≡◌, ◌+◌, ◌*◌, ◌≤◌, ◌<
 ghost use Rattle.words.specs.Limits.{most_borders, FAR};
 ghost use Rattle.table_rows.specs.Flat.{entry, through, blank, Holds, StartsWith, Begins, Tried, Blanked};
 
-use cells::wide;
 use far_sums::FAR;
 
 // As many nodes as a part has rows.
@@ -73,16 +72,16 @@ impl Table {
     pub fn place(self, i: u32, j: u32) -> usize
         ensures { result ≡ self.at + self.nodes * i + j }
     {
-        wide(self.at) + wide(self.nodes) * wide(i) + wide(j)
+        self.at as usize + self.nodes as usize * i as usize + j as usize
     }
 
     // Node k is tried.
     pub fn try_node(self, mem: &mut [u32], k: u32)
         ensures { Tried self.at self.nodes k mem.old mem.new }
     {
-        let at = wide(self.at);
-        let n = wide(self.nodes);
-        let k = wide(k);
+        let at = self.at as usize;
+        let n = self.nodes as usize;
+        let k = k as usize;
         if n <= MOST_NODES && k < n && at + n * n <= mem.len() {
             try_table(&mut mem[at..at + n * n], n, k);
         }
@@ -92,8 +91,8 @@ impl Table {
     pub fn blank(self, mem: &mut [u32])
         ensures { Blanked self.at self.nodes mem.old mem.new }
     {
-        let at = wide(self.at);
-        let n = wide(self.nodes);
+        let at = self.at as usize;
+        let n = self.nodes as usize;
         if n <= MOST_NODES && at + n * n <= mem.len() {
             blank_table(&mut mem[at..at + n * n], n);
         }

@@ -9,11 +9,11 @@ use Rattle.parts.specs.Size.{size_of}
 use Rattle.parts.proofs.Down.{children_says}
 use Rattle.assembly.specs.Laid.{LaidForTables}
 use Rattle.assembly.proofs.Shown.{shown_in, shown_place}
-use Rattle.table_words.specs.declared.PartRows.{PartRows}
+use Rattle.table_words.specs.declared.LaidRows.{LaidRows}
 use Rattle.table_words.specs.declared.Below.{Below}
 use Rattle.table_words.specs.Rows.{RowsRead, RowsOf, StandsBelow}
 
-pub rows_shown : {mem : List ℕ} {p : ℕ} {rows : PartRows} → RowsRead mem p rows → (m : Map) → LaidForTables m mem → p < part_count m → RowsOf m p rows
+pub rows_shown : {mem : List ℕ} {p : ℕ} {rows : LaidRows} → RowsRead mem p rows → (m : Map) → LaidForTables m mem → p < part_count m → RowsOf m p rows
 rows_shown {p = p} read m L hp =
     let laid = L.part p hp in
     record { nodes = read.nodes ∙ laid.size; first = read.first ∙ laid.first_row; table = read.table ∙ laid.table }

@@ -37,18 +37,19 @@ pub fn place_of(row: u32, first: u32) -> u32
 }
 
 // The rows of a part: where the first stands, and the table of the distances between their vertices, with a node for each row.
+// As the part's record shows them, whatever it shows: that they lie within the memory is known of a memory laid for tables, and not tested, as it is of part_words::PartRows.
 #[derive(Clone, Copy)]
-pub struct PartRows {
+pub struct LaidRows {
     pub first: u32,
     pub table: Table,
 }
 
-impl PartRows {
+impl LaidRows {
     // Those of part p, as its record shows them.
-    pub fn of(mem: &[u32], p: u32) -> PartRows
+    pub fn of(mem: &[u32], p: u32) -> LaidRows
         ensures { RowsRead mem.now p result }
     {
-        PartRows {
+        LaidRows {
             first: part_word(mem, p, PartRecord::ROWS),
             table: Table {
                 at: part_word(mem, p, PartRecord::TABLE),
@@ -62,7 +63,7 @@ impl PartRows {
 #[derive(Clone, Copy)]
 pub struct Below {
     pub part: u32,
-    pub rows: PartRows,
+    pub rows: LaidRows,
     pub row: u32,
 }
 
@@ -74,7 +75,7 @@ pub fn row_below(mem: &[u32], first: u32, i: u32) -> Option<Below>
     if part == 0 {
         return None;
     }
-    let rows = PartRows::of(mem, part);
+    let rows = LaidRows::of(mem, part);
     let row = place_of(row_word(mem, first, i, RowRecord::BELOW), rows.first);
     Some(Below { part, rows, row })
 }

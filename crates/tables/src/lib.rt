@@ -11,18 +11,18 @@ ghost use Rattle.assembly.specs.Laid.{LaidForTables, Filled};
 ghost use Rattle.assembly.specs.Lower.{Inside};
 ghost use Rattle.assembly.specs.Steps.{AtHome, HaltTried, Closed, EnteredRow, Entered, Risen, Descended};
 
-use cells::{wide, word};
+use cells::word;
 use layout::{HeadRecord, PartRecord, part_word};
 use table_pairs::agree;
 use table_roads::{note_rows, take_roads};
 use table_rows::Table;
-use table_words::{PartRows, row_below};
+use table_words::{LaidRows, row_below};
 
 // Row k is tried, if it is marked as a halt.
 fn try_halt(mem: &mut [u32], marks: &[u32], table: Table, k: u32)
     ensures { HaltTried table.at table.nodes k marks.now mem.old mem.new }
 {
-    if word(marks, wide(k)) == 1 {
+    if word(marks, k as usize) == 1 {
         table.try_node(mem, k);
     }
 }
@@ -32,7 +32,7 @@ fn close(mem: &mut [u32], marks: &[u32], p: u32)
     ensures closed { (m : Map) → LaidForTables m mem.old → p < part_count m → AtHome m p mem.old → Closed m p (size_of m p) marks.now mem.old mem.new }
     ensures mem_len_unchanged { length mem.new ≡ length mem.old }
 {
-    let table = PartRows::of(mem, p).table;
+    let table = LaidRows::of(mem, p).table;
     for k in 0..table.nodes {
         try_halt(mem, marks, table, k);
     }
@@ -45,7 +45,7 @@ fn rise(mem: &mut [u32], place: &mut [u32], p: u32)
     ensures place_len_unchanged { length place.new ≡ length place.old }
 {
     let mut marks = [0; 128];
-    PartRows::of(mem, p).table.blank(mem);
+    LaidRows::of(mem, p).table.blank(mem);
     note_rows(mem, p, place);
     take_roads(mem, place, &mut marks, p);
     agree(mem, p);

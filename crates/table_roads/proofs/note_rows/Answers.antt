@@ -5,4 +5,4 @@ use Rattle.assembly.proofs.Roads.{noted_turn}
 use Rattle.table_roads.proofs.note_rows.Goals as goal
 
 pub loop-i-preserved : goal.loop-i-preserved
-loop-i-preserved c = (search rules, noted_turn _ _ _ _ _ (search rules) c.of-rows.ensures.nodes c.loop-i.invariant.0 c.loop-i.invariant.1 c.of-rows.ensures.first c.row_word.ensures c.vertex_of-v.ensures.1 c.wide.ensures c.put.ensures)
+loop-i-preserved c = (search rules, noted_turn _ _ _ _ _ (search rules) c.of-rows.ensures.nodes c.loop-i.invariant.0 c.loop-i.invariant.1 c.of-rows.ensures.first c.row_word.ensures c.vertex_of-v.ensures.1 c.put.ensures)

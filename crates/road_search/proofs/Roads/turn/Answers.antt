@@ -6,12 +6,12 @@ use Rattle.road_search.proofs.Roads.turn.Goals as goal
 
 pub relax_out-requires-clause-fan : goal.relax_out-requires-clause-fan
 relax_out-requires-clause-fan c =
-    let there : Found c.args.self.now.mem.now c.args.self.now.roads_at c.args.u c.wide-first.result c.next_out-next.result = rw (c.wide-first.ensures, c.next_out-next.ensures) (found c.args.self.now.laid c.args.u c.requires.u_lt_n) in
+    let there : Found c.args.self.now.mem.now c.args.self.now.roads_at c.args.u _ c.next_out-next.result = rw c.next_out-next.ensures (found c.args.self.now.laid c.args.u c.requires.u_lt_n) in
     there.fan
 
 pub returns : goal.returns
 unfolding roads_out
 returns c = record {
-  labels_after = rw (← c.wide-first.ensures, ← c.next_out-next.ensures) c.relax_out.ensures.labels_after;
-  keys_after = rw (← c.wide-first.ensures, ← c.next_out-next.ensures, ← c.take.ensures) c.relax_out.ensures.keys_after;
+  labels_after = rw (← c.next_out-next.ensures) c.relax_out.ensures.labels_after;
+  keys_after = rw (← c.next_out-next.ensures, ← c.take.ensures) c.relax_out.ensures.keys_after;
 }

@@ -5,4 +5,4 @@ use Rattle.table_rows.proofs.Rows.{tried_there}
 use Rattle.table_rows.proofs.Table.try_node.Goals as goal
 
 pub returns-then-at-n : goal.returns-then-at-n
-returns-then-at-n c = rw (← c.wide-at.ensures, ← c.wide-n.ensures, ← c.wide-k.ensures) (tried_there _ _ _ c.if-at-n.true _ (search rules) c.if-k-n.true c.try_table.ensures)
+returns-then-at-n c = tried_there _ _ _ c.if-at-n.true _ (search rules) c.if-k-n.true c.try_table.ensures
