@@ -9,17 +9,17 @@ ghost use Rattle.map_borders.specs.Lift.{most_steps, meet, lifted, Lifted};
 ghost use Rattle.map_borders.specs.Mark.{Marked, BordersCounted, few_at};
 ghost use Rattle.map_borders.specs.Sizes.{Given, Lifts, Sizes};
 
-use cells::lower;
+use cells::{lower, word};
 use counts::Counts;
-use map_parts::{Part, ShownMap, bump, tally};
+use map_parts::{Part, bump, tally};
 use map_roads::Road;
 
 // Each step to a parent lowers one of two part numbers.
 const MOST_STEPS: u32 = 2 * Counts::MOST_PARTS;
 
 // The lowest part that is both parts or lies above them.
-fn common(shown: &ShownMap, a: u32, b: u32) -> u32
-    ensures { result ≡ meet shown.now.parents most_steps a b }
+fn common(parents: &[u32], a: u32, b: u32) -> u32
+    ensures { result ≡ meet parents.now most_steps a b }
 {
     let mut x = a;
     let mut y = b;
@@ -29,54 +29,64 @@ fn common(shown: &ShownMap, a: u32, b: u32) -> u32
         }
         let high = x.max(y);
         x = x.min(y);
-        y = shown.parent(high);
+        y = word(parents, high as usize);
     }
     0
 }
 
 // Road i lowers the lifts of its ends to the lowest part that both stand in.
-fn lift_road(shown: &ShownMap, i: u32, lifts: &mut [u32; 4096])
-    ensures { lifts.new ≡ lifted shown.now.parents shown.now.leaves shown.now.body.now i lifts.old }
+fn lift_road(parents: &[u32], leaves: &[u32], body: &[u8], i: u32, lifts: &mut [u32; 4096])
+    ensures { lifts.new ≡ lifted parents.now leaves.now body.now i lifts.old }
 {
-    let road = Road::read(shown.body, i);
-    let x = common(shown, shown.leaf(road.from), shown.leaf(road.to));
+    let road = Road::read(body, i);
+    let x = common(
+        parents,
+        word(leaves, road.from as usize),
+        word(leaves, road.to as usize),
+    );
     lower(lifts, road.from as usize, x);
     lower(lifts, road.to as usize, x);
 }
 
 // Every road lowers the lifts of its ends. They start at 65,535.
-fn lift_all(shown: &ShownMap) -> [u32; 4096]
-    ensures { Lifted shown.now.parents shown.now.leaves shown.now.body.now shown.now.counts.roads result }
+fn lift_all(parents: &[u32], leaves: &[u32], body: &[u8], roads: u32) -> [u32; 4096]
+    ensures { Lifted parents.now leaves.now body.now roads result }
 {
     let mut lifts: [u32; 4096] = [Part::NONE; 4096];
-    for i in 0..shown.counts.roads {
-        lift_road(shown, i, &mut lifts);
+    for i in 0..roads {
+        lift_road(parents, leaves, body, i, &mut lifts);
     }
     lifts
 }
 
 // Counts a vertex for each part that it is a border of: the parents of the parts above its lift, from its leaf upward.
-fn mark(shown: &ShownMap, leaf: u32, lift: u32, counts: &mut [u32; 512])
+fn mark(parents: &[u32], leaf: u32, lift: u32, counts: &mut [u32; 512])
     requires { (q : ℕ) → word counts.old q ≤ 4000000000 }
-    ensures { Marked shown.now.parents lift leaf counts.old counts.new }
+    ensures { Marked parents.now lift leaf counts.old counts.new }
 {
     let mut part = leaf;
     for _ in 0..Counts::MOST_PARTS {
         if part <= lift {
             return;
         }
-        part = shown.parent(part);
+        part = word(parents, part as usize);
         bump(counts, part);
     }
 }
 
 // Counts every vertex for each part that it is a border of.
-fn count_all(shown: &ShownMap, lifts: &[u32; 4096], counts: &mut [u32; 512])
-    requires { (q : ℕ) → word counts.old q ≤ 65536 }
-    ensures { BordersCounted shown.now.parents shown.now.leaves lifts.now shown.now.counts.vertices counts.old counts.new }
+fn count_all(
+    parents: &[u32],
+    leaves: &[u32],
+    lifts: &[u32; 4096],
+    vertices: u32,
+    counts: &mut [u32; 512],
+)
+    requires { (vertices ≤ most_vertices) × ((q : ℕ) → word counts.old q ≤ 65536) }
+    ensures { BordersCounted parents.now leaves.now lifts.now vertices counts.old counts.new }
 {
-    for v in 0..shown.counts.vertices {
-        mark(shown, shown.leaf(v), lifts[v as usize], counts);
+    for v in 0..vertices {
+        mark(parents, word(leaves, v as usize), lifts[v as usize], counts);
     }
 }
 
@@ -88,12 +98,14 @@ pub struct Measures {
     pub sizes: [u32; 512],
 }
 
-pub fn measure(shown: &ShownMap) -> Measures
-    ensures { (length result.lifts ≡ most_vertices) × (length result.sizes ≡ most_parts) × ((m : Map) → Given m shown.now.parents shown.now.leaves shown.now.body.now shown.now.counts.vertices shown.now.counts.roads shown.now.counts.parts → Lifts m result.lifts × Sizes m result.sizes) }
+// Five parameters and no type that holds them: callers may have any words and any bytes, within no limits but that of `vertices`.
+pub fn measure(parents: &[u32], leaves: &[u32], body: &[u8], vertices: u32, roads: u32) -> Measures
+    requires { vertices ≤ most_vertices }
+    ensures { (length result.lifts ≡ most_vertices) × (length result.sizes ≡ most_parts) × ((m : Map) (parts : ℕ) → Given m parents.now leaves.now body.now vertices roads parts → Lifts m result.lifts × Sizes m result.sizes) }
 {
-    let lifts = lift_all(shown);
-    let mut sizes = tally(&shown.leaves[..shown.counts.vertices as usize]);
-    count_all(shown, &lifts, &mut sizes);
+    let lifts = lift_all(parents, leaves, body, roads);
+    let mut sizes = tally(leaves, vertices);
+    count_all(parents, leaves, &lifts, vertices, &mut sizes);
     Measures { lifts, sizes }
 }
 

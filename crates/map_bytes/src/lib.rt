@@ -16,7 +16,7 @@ fn byte(bytes: &[u8], at: usize) -> u8
 pub fn rest(bytes: &[u8], at: usize) -> &[u8]
     ensures { result.now ≡ drop at bytes.now }
 {
-    bytes.get(at..).unwrap_or(&[])
+    &bytes[at.min(bytes.len())..]
 }
 
 // The number of 2 bytes at `at`.

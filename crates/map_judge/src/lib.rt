@@ -114,7 +114,13 @@ fn judge_rules(shown: &ShownMap) -> Result<Sound, Refusal>
     if !roads_fit(shown.body, counts.vertices, counts.roads) {
         return Err(Refusal::MapRoads);
     }
-    let measures = measure(shown);
+    let measures = measure(
+        &shown.parents,
+        &shown.leaves,
+        shown.body,
+        counts.vertices,
+        counts.roads,
+    );
     if !measures.fit(counts.parts) {
         return Err(Refusal::MapParts);
     }

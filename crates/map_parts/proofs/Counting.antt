@@ -6,13 +6,12 @@ use mathlib.Core.List.{List}
 use Prim.Native.Nat.{ℕ, suc, ◌+◌, ◌-◌, ◌<◌, ◌≤◌}
 use native.Mathlib.Decide.{ℕ_discrete, dec_lt}
 use native.Mathlib.Omega.{arith}
-use lib.ListN.{length, get_or, set, take, length-set}
-use lib.Seq.{get_or-set_same, get_or-set_other, set_out, length-take-le, get_or-take}
+use lib.ListN.{length, get_or, set, length-set}
+use lib.Seq.{get_or-set_same, get_or-set_other, set_out}
 use lib.Dec.{eqb}
 use borrow.Author.Tests.{eq-eqb, ne_eqb}
 use Rattle.words.specs.Limits.{most_parts}
-use Rattle.words.specs.Lists.{count_from, up_to, word, keep}
-use Rattle.words.proofs.Lists.{count_from_below, keep_same}
+use Rattle.words.specs.Lists.{count_from, word, keep}
 use Rattle.map_parts.specs.Tally.{bumped, tallied, Tallied}
 
 -- The loop's state at number i: what is counted and what is left to count make the whole count.
@@ -95,22 +94,3 @@ module _ {numbers : List ℕ} {n : ℕ} where
         few = λ p. omega (arith, s.few p, s.reached);
         each = λ p hp. (let none : n - i ≡ 0 = omega arith in omega (arith, ap (λ (k : ℕ). tallied numbers i k p) none)) ∙ s.each p hp;
       }
-
--- the counts of a list's first n numbers
-pub tallied_front : {numbers front counts : List ℕ} (n : ℕ) → n ≤ length numbers → front ≡ take n numbers → Tallied front (length front) counts → Tallied numbers n counts
-unfolding tallied
-tallied_front {numbers} {front} {counts} n h is t =
-    record {
-      room = t.room;
-      few = λ p. omega (arith, t.few p, long);
-      each = λ p hp.
-          t.each p hp
-          ∙ ap (λ (k : ℕ). length (keep (λ i. eqb (word front i) p) (count_from 0 k))) long
-          ∙ ap length (keep_same (λ i. eqb (word front i) p) (λ i. eqb (word numbers i) p) (up_to n) (λ i m. ap (λ (k : ℕ). eqb k p) (here i (omega (arith, count_from_below 0 n i m)))));
-    }
-  where
-    long : length front ≡ n
-    long = ap length is ∙ length-take-le n numbers h
-
-    here : (i : ℕ) → i < n → word front i ≡ word numbers i
-    here i less = ap (λ (l : List ℕ). word l i) is ∙ get_or-take n numbers i 0 less

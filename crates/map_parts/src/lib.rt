@@ -1,7 +1,7 @@
 // The map that bytes show, and the rules for its parts but for the border limit: the first test for refusal 3.
 #![tactic(auto)]
 
-ghost use Rattle.std.specs.Prelude.{◌≡◌, ℕ, ◌<◌, ◌≤◌, length};
+ghost use Rattle.std.specs.Prelude.{◌≡◌, ℕ, ◌<◌, ◌≤◌};
 ghost use Rattle.words.specs.Limits.{most_parts};
 ghost use Rattle.words.specs.Lists.{up_to, word, all};
 ghost use Rattle.roads.specs.Map.{Map};
@@ -11,6 +11,7 @@ ghost use Rattle.map_parts.specs.Tally.{bumped, Tallied};
 
 mod shown;
 
+use cells::word;
 pub use shown::ShownMap;
 
 // How many children a part has, and how many vertices stand in it.
@@ -53,19 +54,20 @@ pub fn bump(counts: &mut [u32; 512], p: u32)
     ensures { counts.new ≡ bumped counts.old p }
 {
     let at = p as usize;
+    // No `get_mut`: where that is `None`, a proof knows nothing of the array.
     if at < counts.len() {
         counts[at] += 1;
     }
 }
 
-// For each part, how many of the numbers are its number.
-pub fn tally(numbers: &[u32]) -> [u32; 512]
-    requires { length numbers.now < 65536 }
-    ensures { Tallied numbers.now (length numbers.now) result }
+// For each part, how many of the first n numbers are its number. A number past the end is 0.
+pub fn tally(numbers: &[u32], n: u32) -> [u32; 512]
+    requires { n < 65536 }
+    ensures { Tallied numbers.now n result }
 {
     let mut counts: [u32; 512] = [0; 512];
-    for p in numbers {
-        bump(&mut counts, *p);
+    for i in 0..n {
+        bump(&mut counts, word(numbers, i as usize));
     }
     counts
 }
@@ -139,8 +141,8 @@ impl<'a> ShownMap<'a> {
             return false;
         }
         // Two arrays, not one of `Part`: one `tally` counts either.
-        let children = tally(&self.parents[..self.counts.parts as usize]);
-        let homes = tally(&self.leaves[..self.counts.vertices as usize]);
+        let children = tally(&self.parents, self.counts.parts);
+        let homes = tally(&self.leaves, self.counts.vertices);
         self.tree_fits(&children, &homes) && self.vertices_stand(&children)
     }
 }

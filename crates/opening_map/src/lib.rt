@@ -19,6 +19,12 @@ pub fn write_map(map: &[u8], found: Sound, start: u32, mem: &mut [u32])
     ensures { (m : Map) → judge map.now ≡ sound m → Counted m found.counts found.need → length mem.old ≡ found.need → Sections m start mem.new }
 {
     let shown = ShownMap::read(map, found.counts);
-    let measures = measure(&shown);
+    let measures = measure(
+        &shown.parents,
+        &shown.leaves,
+        shown.body,
+        shown.counts.vertices,
+        shown.counts.roads,
+    );
     write_sections(&shown, &measures, found.need, start, mem);
 }

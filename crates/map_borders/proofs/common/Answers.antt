@@ -9,7 +9,7 @@ pub returns-then-x-y : goal.returns-then-x-y
 returns-then-x-y c = sym (c.loop.invariant ∙ meet_here _ _ _ _ _ (omega arith) c.if-x-y.true)
 
 pub loop-preserved : goal.loop-preserved
-loop-preserved c = c.loop.invariant ∙ meet_above _ _ _ _ _ (omega arith) c.if-x-y.false c.min-x.ensures c.max-high.ensures c.parent-y.ensures
+loop-preserved c = c.loop.invariant ∙ meet_above _ _ _ _ _ (omega arith) c.if-x-y.false c.min-x.ensures c.max-high.ensures c.word-y.ensures
 
 pub returns : goal.returns
 returns c = sym (c.loop.invariant ∙ meet_none _ _ _ _ _ (omega arith))

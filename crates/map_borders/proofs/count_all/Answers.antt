@@ -5,4 +5,4 @@ use Rattle.map_borders.proofs.Marking.{totalling_step}
 use Rattle.map_borders.proofs.count_all.Goals as goal
 
 pub loop-v-preserved : goal.loop-v-preserved
-loop-v-preserved c = totalling_step _ _ c.loop-v.invariant (omega arith) c.leaf.ensures c.mark.ensures
+loop-v-preserved c = totalling_step _ _ c.loop-v.invariant (omega arith) c.word.ensures c.mark.ensures

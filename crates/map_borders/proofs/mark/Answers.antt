@@ -8,7 +8,7 @@ pub returns-then-part-lift : goal.returns-then-part-lift
 returns-then-part-lift c = marking_stop _ _ c.loop.invariant c.if-part-lift.true
 
 pub loop-preserved : goal.loop-preserved
-loop-preserved c = marking_step _ _ _ c.loop.invariant (omega arith) c.if-part-lift.false c.parent-part.ensures c.bump.ensures
+loop-preserved c = marking_step _ _ _ c.loop.invariant (omega arith) c.if-part-lift.false c.word-part.ensures c.bump.ensures
 
 pub returns : goal.returns
 returns c = marking_end _ _ c.loop.invariant (omega arith)

@@ -1,8 +1,5 @@
 -- `measure` lifts the vertices, and counts the vertices of leaves and the borders of other parts.
 -- Assumes nothing.
-use mathlib.Core.Path.{refl}
-use native.Mathlib.Omega.{arith}
-use Rattle.map_parts.proofs.Counting.{tallied_front}
 use Rattle.map_borders.proofs.Earlier.{told}
 use Rattle.map_borders.proofs.Borders.{lifts_are, sizes_are}
 use Rattle.map_borders.proofs.measure.Goals as goal
@@ -11,8 +8,8 @@ pub returns : goal.returns
 returns c = (
   c.lift_all-lifts.ensures.room,
   c.count_all.ensures.room,
-  λ m given.
+  λ m parts given.
       let known = told given in
       let lifts = lifts_are given known _ c.lift_all-lifts.ensures in
-      (lifts, sizes_are given known _ lifts _ _ (tallied_front _ (omega arith) refl c.tally-sizes.ensures) c.count_all.ensures),
+      (lifts, sizes_are given known _ lifts _ _ c.tally-sizes.ensures c.count_all.ensures),
 )
