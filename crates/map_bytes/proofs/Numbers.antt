@@ -1,24 +1,18 @@
 -- Numbers of 2 and of 4 bytes, by their bytes.
 -- Assumes nothing.
-use mathlib.Core.Path.{◌≡◌, refl, sym, ap, ◌∙◌}
+use mathlib.Core.Path.{◌≡◌, refl, ap, ap₂, ◌∙◌}
 use mathlib.Core.List.{List, [], ◌∷◌}
-use Prim.Native.Nat.{ℕ, ◌+◌, ◌*◌, ◌≤◌}
+use Prim.Native.Nat.{ℕ, ◌+◌, ◌*◌}
 use native.Mathlib.Omega.{arith}
-use lib.ListN.{length, get_or, take, drop, drop_of_length-le}
-use lib.Seq.{take-nil}
+use lib.ListN.{get_or, take, drop}
 use Rattle.maps.specs.Bytes.{number, field}
-
--- past the end there is only 0
-pub field_past : (bytes : List ℕ) (at size : ℕ) → length bytes ≤ at → 0 ≡ field bytes at size
-unfolding field
-field_past bytes at size h = sym (ap (λ (l : List ℕ). number (take size l)) (drop_of_length-le bytes h) ∙ ap number (take-nil size))
 
 two : (xs : List ℕ) → get_or xs 0 0 + 256 * get_or xs 1 0 ≡ number (take 2 xs)
 two [] = refl
 two (a ∷ []) = omega arith
 two (a ∷ b ∷ xs) = omega arith
 
-four : (xs : List ℕ) → get_or xs 0 0 + 256 * get_or xs 1 0 + 65536 * get_or xs 2 0 + 16777216 * get_or xs 3 0 ≡ number (take 4 xs)
+four : (xs : List ℕ) → number (take 2 xs) + 65536 * number (take 2 (drop 2 xs)) ≡ number (take 4 xs)
 four [] = refl
 four (a ∷ []) = omega arith
 four (a ∷ b ∷ []) = omega arith
@@ -30,7 +24,7 @@ pub field_two : (bytes : List ℕ) (at : ℕ) {rest : List ℕ} → rest ≡ dro
 unfolding field
 field_two bytes at {rest} is = two rest ∙ ap (λ (l : List ℕ). number (take 2 l)) is
 
-pub field_four : (bytes : List ℕ) (at : ℕ) {rest : List ℕ} → rest ≡ drop at bytes
-    → get_or rest 0 0 + 256 * get_or rest 1 0 + 65536 * get_or rest 2 0 + 16777216 * get_or rest 3 0 ≡ field bytes at 4
+pub field_four : (bytes : List ℕ) (at : ℕ) {rest : List ℕ} {low high : ℕ} → rest ≡ drop at bytes → low ≡ field rest 0 2 → high ≡ field rest 2 2
+    → low + 65536 * high ≡ field bytes at 4
 unfolding field
-field_four bytes at {rest} is = four rest ∙ ap (λ (l : List ℕ). number (take 4 l)) is
+field_four bytes at {rest} is isLow isHigh = ap₂ (λ (x y : ℕ). x + 65536 * y) isLow isHigh ∙ four rest ∙ ap (λ (l : List ℕ). number (take 4 l)) is

@@ -1,16 +1,9 @@
 // Little-endian numbers and records in any bytes. A byte past the end reads as 0, as in the definitions.
 #![tactic(auto)]
 
-ghost use Rattle.std.specs.Prelude.{◌≡◌, ◌<◌, ◌≤◌, length, drop, get_or};
+ghost use Rattle.std.specs.Prelude.{◌≡◌, ◌<◌, ◌≤◌, length, drop};
 ghost use Rattle.maps.specs.Bytes.{field, is_record, number_at};
 ghost use Rattle.map_bytes.specs.Copied.{Copied};
-
-// The byte at `at`.
-fn byte(bytes: &[u8], at: usize) -> u8
-    ensures { result ≡ get_or bytes.now at 0 }
-{
-    bytes.get(at).copied().unwrap_or(0)
-}
 
 // The bytes from `at` on.
 pub fn rest(bytes: &[u8], at: usize) -> &[u8]
@@ -23,8 +16,11 @@ pub fn rest(bytes: &[u8], at: usize) -> &[u8]
 pub fn number2(bytes: &[u8], at: usize) -> u32
     ensures { (result ≡ field bytes.now at 2) × (result < 65536) }
 {
-    let rest = rest(bytes, at);
-    u16::from_le_bytes([byte(rest, 0), byte(rest, 1)]) as u32
+    match rest(bytes, at) {
+        [] => 0,
+        [low] => *low as u32,
+        [low, high, ..] => u16::from_le_bytes([*low, *high]) as u32,
+    }
 }
 
 // The number of 4 bytes at `at`.
@@ -32,7 +28,7 @@ pub fn number4(bytes: &[u8], at: usize) -> u32
     ensures { result ≡ field bytes.now at 4 }
 {
     let rest = rest(bytes, at);
-    u32::from_le_bytes([byte(rest, 0), byte(rest, 1), byte(rest, 2), byte(rest, 3)])
+    number2(rest, 0) + 65536 * number2(rest, 2)
 }
 
 // The record at `at` has this kind and this length, and is not cut.
