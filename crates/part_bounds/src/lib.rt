@@ -11,7 +11,7 @@ ghost use Rattle.part_keys.specs.Keys.{far_count};
 ghost use Rattle.part_keys.specs.Spread.{Spreads};
 ghost use Rattle.part_bounds.specs.Bounds.{OpenedUp};
 
-use cells::{put, wide, word};
+use cells::{put, word};
 use far_sums::{FAR, far_sum};
 use layout::RowRecord;
 use part_keys::{PartsWaiting, lower_key, spread_known};
@@ -33,11 +33,11 @@ fn relax_spread(
     let rows = rows_of(mem, part);
     let mut n = waiting.n;
     for &asked in lists.asked() {
-        let i = wide(asked);
+        let i = asked as usize;
         let way = least_in(line_of(mem, part, i), lists);
         let owner = rows[RowRecord::WORDS * i + RowRecord::OWN];
-        let below = wide(rows[RowRecord::WORDS * i + RowRecord::BELOW]);
-        put(dx, wide(owner % RowRecord::CHILD), way);
+        let below = rows[RowRecord::WORDS * i + RowRecord::BELOW] as usize;
+        put(dx, (owner % RowRecord::CHILD) as usize, way);
         let key = far_sum(word(mem, below + RowRecord::DISTANCE), way);
         n = lower_key(
             &mut waiting.keys,
@@ -73,7 +73,7 @@ pub fn open_up(
         return;
     };
     look(mem, part, dx, lists, |near, _, below| {
-        is_asked(near, word(mem, wide(below) + RowRecord::DISTANCE), all)
+        is_asked(near, word(mem, below as usize + RowRecord::DISTANCE), all)
     });
     if !all {
         spread_known(mem, part, lists, waiting);

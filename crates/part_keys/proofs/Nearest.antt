@@ -1,6 +1,6 @@
 -- The least key of those that wait.
 -- Assumes nothing.
-use mathlib.Core.Path.{◌≡◌, ◌∙◌, ap}
+use mathlib.Core.Path.{◌≡◌, ap}
 use mathlib.Core.Logic.{◌⊎◌, inl, inr}
 use mathlib.Core.List.{List}
 use Prim.Native.Nat.{ℕ, ◌+◌, ◌≤◌, ◌<◌}
@@ -16,10 +16,10 @@ module _ {keys waits : List ℕ} {from : ℕ} where
   pub nearest_none : Nearest keys waits from from FAR from
   nearest_none = record { most = omega arith; below = λ t low high. absurd (omega arith); place = λ h. absurd (omega arith) }
 
-  module _ {t least at : ℕ} (p : Nearest keys waits from t least at) (low : from ≤ t) {part wide key : ℕ} (isPart : part ≡ word waits t) (is_wide : wide ≡ part) (is_key : key ≡ word keys wide) where
+  module _ {t least at : ℕ} (p : Nearest keys waits from t least at) (low : from ≤ t) {key : ℕ} (is_key : key ≡ word keys (word waits t)) where
     key_is : key ≡ key_at keys waits t
     unfolding key_at
-    key_is = is_key ∙ ap (word keys) (is_wide ∙ isPart)
+    key_is = is_key
 
     below_next : (now : ℕ) → now ≤ least → now ≤ key → (u : ℕ) → from ≤ u → u < t + 1 → now ≤ key_at keys waits u
     below_next now a b u lowest high = by (ℕ_discrete u t)

@@ -20,11 +20,11 @@ use Rattle.row_lists.specs.Rows.{child_at, near_at}
 use Rattle.part_keys.specs.Keys.{is_new, far_count, key_of, Spread}
 
 -- the key that a row gives
-pub key_read : (mem : List ℕ) (first : ℕ) (dx : List ℕ) (i : ℕ) {row below shown d r : ℕ} → row ≡ word mem (first + 4 * i + 3) → below ≡ row → shown ≡ word mem (below + 1) → d ≡ near_at mem first dx i
+pub key_read : (mem : List ℕ) (first : ℕ) (dx : List ℕ) (i : ℕ) {row shown d r : ℕ} → row ≡ word mem (first + 4 * i + 3) → shown ≡ word mem (row + 1) → d ≡ near_at mem first dx i
     → r ≡ min (shown + d) 4294967295 → r ≡ key_of mem first dx i
 unfolding key_of
-key_read mem first dx i is_row isBelow isShown isNear isSum =
-    isSum ∙ (λ j. min ((isShown ∙ ap (λ (k : ℕ). word mem (k + 1)) (isBelow ∙ is_row)) j + isNear j) FAR)
+key_read mem first dx i is_row isShown isNear isSum =
+    isSum ∙ (λ j. min ((isShown ∙ ap (λ (k : ℕ). word mem (k + 1)) is_row) j + isNear j) FAR)
 
 one_mono : (x y : ℕ) → x ≤ y → cond (leb FAR x) 1 0 ≤ cond (leb FAR y) 1 0
 one_mono x y h = by (dec_le FAR x) (dec_le FAR y)
@@ -253,12 +253,12 @@ module _ {mem : List ℕ} {first : ℕ} {dx : List ℕ} (list : List ℕ) where
   spread_count {keys = keys} {waits} {n} {keys'} {waits'} {n'} same s = subst (λ (k : ℕ). Spread mem first dx (Among list k) keys waits n keys' waits' n') same s
 
 -- what `lower_key` leaves
-pub key_lowered : (keys : List ℕ) (key : ℕ) {at old part least : ℕ} {keys' : List ℕ} → at ≡ part → old ≡ word keys at → least ≡ min key old → keys' ≡ set keys at least → keys' ≡ lowered keys part key
-key_lowered keys key {at} is_at isOld isLeast isKeys =
-    isKeys ∙ lowered_lesser keys at key (isLeast ∙ ap (min key) isOld) ∙ ap (λ (k : ℕ). lowered keys k key) is_at
+pub key_lowered : (keys : List ℕ) (part key : ℕ) {old least : ℕ} {keys' : List ℕ} → old ≡ word keys part → least ≡ min key old → keys' ≡ set keys part least → keys' ≡ lowered keys part key
+key_lowered keys part key isOld isLeast isKeys =
+    isKeys ∙ lowered_lesser keys part key (isLeast ∙ ap (min key) isOld)
 
-pub key_counted : (keys : List ℕ) (key count : ℕ) {at old part r : ℕ} {is : Bool} → at ≡ part → old ≡ word keys at → is ≡ (ltb key FAR && leb FAR old) → r ≡ cond is (count + 1) count
+pub key_counted : (keys : List ℕ) (part key count : ℕ) {old r : ℕ} {is : Bool} → old ≡ word keys part → is ≡ (ltb key FAR && leb FAR old) → r ≡ cond is (count + 1) count
     → r ≡ cond (is_new keys part key) (count + 1) count
 unfolding is_new
-key_counted keys key count is_at isOld isTest isCount =
-    isCount ∙ ap (λ (b : Bool). cond b (count + 1) count) (isTest ∙ ap (λ (k : ℕ). ltb key FAR && leb FAR k) (isOld ∙ ap (word keys) is_at))
+key_counted keys part key count isOld isTest isCount =
+    isCount ∙ ap (λ (b : Bool). cond b (count + 1) count) (isTest ∙ ap (λ (k : ℕ). ltb key FAR && leb FAR k) isOld)

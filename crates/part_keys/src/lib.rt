@@ -11,7 +11,7 @@ ghost use Rattle.row_lists.specs.Rows.{Nears};
 ghost use Rattle.part_keys.specs.Keys.{is_new, far_count};
 ghost use Rattle.part_keys.specs.Spread.{Spreads};
 
-use cells::{more, put, wide, word};
+use cells::{more, put, word};
 use far_sums::{FAR, far_sum};
 use layout::RowRecord;
 use part_words::PartRows;
@@ -39,7 +39,7 @@ pub fn lower_key(
     requires { far_count keys.old + count ≤ 512 }
     ensures { (keys.new ≡ lowered keys.old part key) × (waits.new ≡ set waits.old count part) × (result ≡ cond (is_new keys.old part key) (count + 1) count) }
 {
-    let at = wide(part);
+    let at = part as usize;
     let old = word(keys, at);
     put(keys, at, key.min(old));
     put(waits, count, part);
@@ -55,9 +55,9 @@ pub fn spread_known(mem: &[u32], part: PartRows, lists: &RowLists, waiting: &mut
     let rows = rows_of(mem, part);
     let mut n = waiting.n;
     for (&place, &near) in lists.places().iter().zip(lists.near()) {
-        let i = wide(place);
+        let i = place as usize;
         let owner = rows[RowRecord::WORDS * i + RowRecord::OWN];
-        let below = wide(rows[RowRecord::WORDS * i + RowRecord::BELOW]);
+        let below = rows[RowRecord::WORDS * i + RowRecord::BELOW] as usize;
         let key = far_sum(word(mem, below + RowRecord::DISTANCE), near);
         n = lower_key(
             &mut waiting.keys,

@@ -6,7 +6,7 @@ ghost use Rattle.words.specs.Lists.{word};
 ghost use Rattle.cells.specs.Lowered.{lowered};
 ghost use Rattle.part_keys.specs.Keys.{far_count, Nearest};
 
-use cells::{lower, wide, word};
+use cells::{lower, word};
 use far_sums::FAR;
 
 // The keys of all parts, FAR where one has none yet, and the parts that wait: the first n of `waits`. A part joins them when it gets its first key.
@@ -33,7 +33,7 @@ impl PartsWaiting {
         let mut least = FAR;
         let mut at = from;
         for t in from..self.n {
-            let key = word(&self.keys, wide(self.waits[t]));
+            let key = word(&self.keys, self.waits[t] as usize);
             if key < least {
                 least = key;
                 at = t;
@@ -61,6 +61,6 @@ impl PartsWaiting {
     pub fn keep_out(&mut self, part: u32)
         ensures { (self.new.keys ≡ lowered self.old.keys part 0) × (self.new.waits ≡ self.old.waits) × (self.new.n ≡ self.old.n) }
     {
-        lower(&mut self.keys, wide(part), 0);
+        lower(&mut self.keys, part as usize, 0);
     }
 }

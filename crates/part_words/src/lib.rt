@@ -6,7 +6,6 @@ ghost use Rattle.part_words.specs.Part.{rows_in, lies_within, PartRead};
 
 mod part;
 
-use cells::wide;
 use layout::{PartRecord, RowRecord, part_word};
 pub use part::PartRows;
 
@@ -17,7 +16,7 @@ pub const MOST_ROWS: usize = 128;
 pub fn row_count(mem: &[u32], p: u32) -> usize
     ensures { (result ≡ rows_in mem.now p) × (result ≤ 128) }
 {
-    wide(part_word(mem, p, PartRecord::SIZE)).min(MOST_ROWS)
+    (part_word(mem, p, PartRecord::SIZE) as usize).min(MOST_ROWS)
 }
 
 // The rows and the table of a part, where both lie within the memory.
@@ -25,8 +24,8 @@ pub fn part_rows(mem: &[u32], p: u32) -> Option<PartRows>
     ensures { MatchOption result (lies_within mem.now p ≡ false) (λ part. PartRead mem.now p part) }
 {
     let size = row_count(mem, p);
-    let first = wide(part_word(mem, p, PartRecord::ROWS));
-    let table = wide(part_word(mem, p, PartRecord::TABLE));
+    let first = part_word(mem, p, PartRecord::ROWS) as usize;
+    let table = part_word(mem, p, PartRecord::TABLE) as usize;
     if first + RowRecord::WORDS * size <= mem.len() && table + size * size <= mem.len() {
         Some(PartRows { size, first, table })
     } else {

@@ -233,8 +233,8 @@ on_and_on so_far goes m fleet x g hx start = goes.on m fleet x g hx (so_far m fl
 abbrev Begun : (mem dx : List ℕ) (keys : List ℕ) (leaf out : ℕ) (best : Best) (m : Map) (fleet : State) (x : ℕ) → ℕ → List ℕ → ℕ → Type 0
 Begun mem dx keys leaf out best m fleet x k waits n = SearchingParts m fleet x k dx keys (set (replicate 512 0) leaf 1) waits leaf out n (list_in mem best)
 
-module _ (mem : List ℕ) (x : ℕ) (dx : List ℕ) (st : Search) (fresh : BeforeSearch dx st) {counts : Counts} {leaf place at : ℕ} {dx₁ dx' : List ℕ} (lists : RowLists) (best : Best) (waiting : PartsWaiting) {out : ℕ}
-    (isCounts : counts ≡ counts_in mem) (isLeaf' : leaf ≡ word mem (vertex_address counts x + 0)) (isPlace : place ≡ word mem (vertex_address counts x + 1)) (is_at : at ≡ x) (isStart : dx₁ ≡ set dx at 0)
+module _ (mem : List ℕ) (x : ℕ) (dx : List ℕ) (st : Search) (fresh : BeforeSearch dx st) {counts : Counts} {leaf place : ℕ} {dx₁ dx' : List ℕ} (lists : RowLists) (best : Best) (waiting : PartsWaiting) {out : ℕ}
+    (isCounts : counts ≡ counts_in mem) (isLeaf' : leaf ≡ word mem (vertex_address counts x + 0)) (isPlace : place ≡ word mem (vertex_address counts x + 1)) (isStart : dx₁ ≡ set dx x 0)
     (relaxed : Fits mem leaf → place < rows_in mem leaf
     → (Alone mem (part_word mem leaf rows_in_part) (rows_in mem leaf) dx₁ place → Relaxed mem leaf true dx₁ dx') × (take lists.count lists.asked ≡ own_rows mem leaf))
     (same : best.k ≡ st.best.k)
@@ -252,9 +252,6 @@ module _ (mem : List ℕ) (x : ℕ) (dx : List ℕ) (st : Search) (fresh : Befor
             (subst⁻¹ (λ (n : ℕ). Begun mem dx' waiting.keys leaf out best m fleet x st.best.k st.waiting.waits n) (isCount ∙ fresh.none_waits) start));
       }
     where
-      start_is : dx₁ ≡ set dx x 0
-      start_is = isStart ∙ ap (λ (i : ℕ). set dx i 0) is_at
-
       leaf_is : leaf ≡ leaf_of m x
       leaf_is = isLeaf' ∙ ap (λ (c : Counts). word mem (vertex_address c x + 0)) isCounts ∙ leaf_read g x hx
 
@@ -262,14 +259,14 @@ module _ (mem : List ℕ) (x : ℕ) (dx : List ℕ) (st : Search) (fresh : Befor
       place_is = isPlace ∙ ap (λ (c : Counts). word mem (vertex_address c x + 1)) isCounts
 
       looks : (Alone mem (part_word mem leaf rows_in_part) (rows_in mem leaf) dx₁ place → Relaxed mem leaf true dx₁ dx') × (take lists.count lists.asked ≡ own_rows mem leaf)
-      looks = relaxed (part_fits g leaf (omega (arith, leaf_is, (sound_tree m g.sound).leaf_part x hx))) (own_row g x hx st.best.k fresh.some dx fresh.no_distance room start_is leaf leaf_is place place_is)
+      looks = relaxed (part_fits g leaf (omega (arith, leaf_is, (sound_tree m g.sound).leaf_part x hx))) (own_row g x hx st.best.k fresh.some dx fresh.no_distance room isStart leaf leaf_is place place_is)
 
       none : list_in mem st.best ≡ []
       none = ap (map (listing (stamp_in mem (counts_in mem)))) fresh.none_listed
 
       start : Begun mem dx' waiting.keys leaf out best m fleet x st.best.k st.waiting.waits 0
-      start = started g x hx st.best.k fresh.some dx fresh.no_distance room start_is leaf leaf_is
-          (looks.0 (alone g x hx st.best.k fresh.some dx fresh.no_distance room start_is leaf leaf_is place place_is))
+      start = started g x hx st.best.k fresh.some dx fresh.no_distance room isStart leaf leaf_is
+          (looks.0 (alone g x hx st.best.k fresh.some dx fresh.no_distance room isStart leaf leaf_is place place_is))
           st.waiting.keys (replicate 512 0) st.waiting.waits fresh.no_key fresh.keys_length (λ q. all_same 512 q 0) (length-replicate {A = ℕ} 512 0) fresh.waits_length
           (leaf_offers mem leaf st.best.k dx' (list_in mem st.best) looks.1 offered ∙ ap (λ (l : List Listed). offered_all st.best.k l (offers_of mem leaf dx')) none) isKeys bound
 

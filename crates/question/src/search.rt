@@ -13,7 +13,7 @@ ghost use Rattle.van_offers.specs.Genuine.{Genuine, list_in};
 ghost use Rattle.question.specs.Kept.{BoundOutside, CannotClimb, Climbs, Searching, GoesOn, Ends, BeforeSearch};
 
 use best_list::BestList;
-use cells::{put, wide};
+use cells::put;
 use far_sums::FAR;
 use layout::{PartRecord, VertexRecord, part_word};
 use part_bounds::open_up;
@@ -37,7 +37,7 @@ pub struct Search {
 fn offer_leaf(mem: &[u32], leaf: u32, dx: &[u32], lists: &RowLists, best: &mut BestList)
     ensures { (best.new.k ≡ best.old.k) × (list_in mem.now best.new ≡ offered_all best.old.k (list_in mem.now best.old) (row_offers mem.now (counts_in mem.now) (part_word mem.now leaf rows_in_part) dx.now (take lists.now.count lists.now.asked))) }
 {
-    let first = wide(part_word(mem, leaf, PartRecord::ROWS));
+    let first = part_word(mem, leaf, PartRecord::ROWS) as usize;
     offer_rows(mem, counts_in(mem), first, lists.asked(), dx, best);
 }
 
@@ -128,7 +128,7 @@ impl Search {
         let counts = counts_in(mem);
         let leaf = vertex_word(mem, counts, x, VertexRecord::LEAF);
         let place = vertex_word(mem, counts, x, VertexRecord::PLACE);
-        put(dx, wide(x), 0);
+        put(dx, x as usize, 0);
         relax_own(mem, leaf, place, dx, &mut self.lists);
         offer_leaf(mem, leaf, dx, &self.lists, &mut self.best);
         self.waiting.keep_out(leaf);

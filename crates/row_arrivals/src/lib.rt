@@ -8,7 +8,6 @@ ghost use Rattle.part_words.specs.Part.{Within};
 ghost use Rattle.row_words.specs.Words.{unplaced};
 ghost use Rattle.row_arrivals.specs.Arrival.{offered_to, offered, placed_seen, spread, is_news, met, arrived, any_news, lead};
 
-use cells::wide;
 use layout::RowRecord;
 use part_words::PartRows;
 use row_words::{place, row_of, source};
@@ -87,7 +86,7 @@ fn meet_all(mem: &mut [u32], numbers: &[u32], part: PartRows, v: u32) -> bool
 {
     let mut any = false;
     for i in numbers {
-        any |= meet(mem, part, v, wide(*i));
+        any |= meet(mem, part, v, *i as usize);
     }
     any
 }
@@ -101,10 +100,10 @@ fn nearest_number(mem: &[u32], numbers: &[u32], part: PartRows) -> usize
 {
     let mut best = place(0, Row::FAR);
     for i in numbers {
-        let seen = source(mem, part.row(wide(*i)));
+        let seen = source(mem, part.row(*i as usize));
         best = best.min(place(*i, seen.distance));
     }
-    wide(row_of(best).vertex)
+    row_of(best).vertex as usize
 }
 
 // The sources of the rows with these numbers are met, the nearest first: what it brings the others often need not bring again. Says whether any was offered.

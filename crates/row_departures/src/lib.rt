@@ -6,7 +6,7 @@ ghost use Rattle.listing.specs.Lists.{EachBelow};
 ghost use Rattle.part_words.specs.Part.{Within};
 ghost use Rattle.row_departures.specs.Departure.{filled, keyed, far_key, unkeyed, source_of, gathered, renewed, remade, Sound};
 
-use cells::{more, wide};
+use cells::more;
 use layout::RowRecord;
 use part_words::{MOST_ROWS, PartRows};
 use row_words::{numbered, row_numbered, show, source};
@@ -94,7 +94,7 @@ fn renew_all(mem: &mut [u32], numbers: &[u32], part: PartRows, sources: &[Source
     ensures { mem.new ≡ renewed numbers.now mem.old sources.now part.first part.table }
 {
     for i in numbers {
-        let row = wide(*i);
+        let row = *i as usize;
         let best = gather(mem, part, sources, row);
         show(mem, part.row(row), row_of_key(best));
     }

@@ -104,10 +104,10 @@ module _ {mem : List ℕ} {first table size : ℕ} {dx : List ℕ} {P : ℕ → 
           )
 
 -- the vertex of row i, read from the rows, has its distance made less
-pub owner_lowered : (mem : List ℕ) (first size i : ℕ) (dx : List ℕ) (way : ℕ) {rows : List ℕ} {wide : ℕ} {dx' : List ℕ} → rows ≡ take (4 * size) (drop first mem) → i < size → wide ≡ word rows (4 * i + 2) % 65536
-    → dx' ≡ lowered dx wide way → dx' ≡ lowered dx (owner_at mem first i) way
-owner_lowered mem first size i dx way cut h is_wide isAfter =
-    isAfter ∙ ap (λ (k : ℕ). lowered dx k way) (is_wide ∙ ap (λ (k : ℕ). k % 65536) (row_read mem first size cut i 2 h (omega arith)))
+pub owner_lowered : (mem : List ℕ) (first size i : ℕ) (dx : List ℕ) (way : ℕ) {rows dx' : List ℕ} → rows ≡ take (4 * size) (drop first mem) → i < size
+    → dx' ≡ lowered dx (word rows (4 * i + 2) % 65536) way → dx' ≡ lowered dx (owner_at mem first i) way
+owner_lowered mem first size i dx way cut h isAfter =
+    isAfter ∙ ap (λ (k : ℕ). lowered dx (k % 65536) way) (row_read mem first size cut i 2 h (omega arith))
 
 -- Rows that are listed.
 module _ {mem : List ℕ} {first size : ℕ} {dx : List ℕ} {test : ℕ → Bool} {lists : RowLists} (l : RowsLooked mem first dx test size lists) where

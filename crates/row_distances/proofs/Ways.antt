@@ -40,10 +40,10 @@ over_row mem at size places near count {row} is_row inside l =
     l
 
 module _ (mem : List ℕ) (first : ℕ) (dx : List ℕ) (i : ℕ) {owner : ℕ} (isOwner : owner ≡ word mem (first + 4 * i + 2)) where
-  pub out_read : {c wide d : ℕ} → owner / 65536 ≡ c → wide ≡ owner % 65536 → d ≡ word dx wide → d ≡ out_of mem first dx c i
+  pub out_read : {c d : ℕ} → owner / 65536 ≡ c → d ≡ word dx (owner % 65536) → d ≡ out_of mem first dx c i
   unfolding out_of
-  out_read {c} same is_wide isNear =
-      rw (eq-eqb (child_at mem first i) c (ap (λ (k : ℕ). k / 65536) (sym isOwner) ∙ same)) (near_read mem first dx i isOwner is_wide isNear)
+  out_read {c} same isNear =
+      rw (eq-eqb (child_at mem first i) c (ap (λ (k : ℕ). k / 65536) (sym isOwner) ∙ same)) (near_read mem first dx i isOwner isNear)
 
   pub out_elsewhere : {c : ℕ} → owner / 65536 ≢ c → FAR ≡ out_of mem first dx c i
   unfolding out_of

@@ -10,7 +10,7 @@ ghost use Rattle.part_words.specs.Part.{rows_in, Within};
 ghost use Rattle.row_lists.specs.Rows.{Fits, shows_own, own_rows, RowsLooked, AskedRow, OwnRow};
 ghost use Rattle.row_distances.specs.Distances.{way_over, Closer, Relaxed, Alone, out_of};
 
-use cells::{lower, more, wide, word};
+use cells::{lower, more, word};
 use far_sums::FAR;
 use layout::{PartRecord, RowRecord, part_word, row_word};
 use part_words::{PartRows, part_rows, row_count};
@@ -21,7 +21,7 @@ pub fn least_in(line: &[u32], lists: &RowLists) -> u32
     requires { (t : ℕ) → t < lists.now.known → word lists.now.places t < length line.now }
     ensures { Least (way_over line.now lists.now.places lists.now.near) lists.now.known result }
 {
-    let mut least = wide(FAR);
+    let mut least = FAR as usize;
     for (&place, &near) in lists.places().iter().zip(lists.near()) {
         least = least.min(line[place as usize] as usize + near as usize);
     }
@@ -35,11 +35,11 @@ fn relax_asked(mem: &[u32], part: PartRows, dx: &mut [u32], lists: &RowLists)
 {
     let rows = rows_of(mem, part);
     for &asked in lists.asked() {
-        let i = wide(asked);
+        let i = asked as usize;
         let way = least_in(line_of(mem, part, i), lists);
         lower(
             dx,
-            wide(rows[RowRecord::WORDS * i + RowRecord::OWN] % RowRecord::CHILD),
+            (rows[RowRecord::WORDS * i + RowRecord::OWN] % RowRecord::CHILD) as usize,
             way,
         );
     }
@@ -70,7 +70,7 @@ fn lower_rows(mem: &[u32], part: PartRows, place: usize, dx: &mut [u32], lists: 
         let way = mem[part.line(i) + place];
         lower(
             dx,
-            wide(rows[RowRecord::WORDS * i + RowRecord::OWN] % RowRecord::CHILD),
+            (rows[RowRecord::WORDS * i + RowRecord::OWN] % RowRecord::CHILD) as usize,
             way,
         );
         lists.asked[count] = i as u32;
@@ -84,7 +84,7 @@ fn lower_rows(mem: &[u32], part: PartRows, place: usize, dx: &mut [u32], lists: 
 pub fn relax_own(mem: &[u32], p: u32, place: u32, dx: &mut [u32], lists: &mut RowLists)
     ensures { Fits mem.now p → place < rows_in mem.now p → (Alone mem.now (part_word mem.now p rows_in_part) (rows_in mem.now p) dx.old place → Relaxed mem.now p true dx.old dx.new) × (take lists.new.count lists.new.asked ≡ own_rows mem.now p) }
 {
-    let place = wide(place);
+    let place = place as usize;
     match part_rows(mem, p) {
         Some(part) if place < part.size => lower_rows(mem, part, place, dx, lists),
         _ => lists.count = 0,
@@ -97,7 +97,7 @@ fn out_of(mem: &[u32], first: u32, i: u32, c: u32, dx: &[u32]) -> u32
 {
     let owner = row_word(mem, first, i, RowRecord::OWN);
     if owner / RowRecord::CHILD == c {
-        word(dx, wide(owner % RowRecord::CHILD))
+        word(dx, (owner % RowRecord::CHILD) as usize)
     } else {
         FAR
     }

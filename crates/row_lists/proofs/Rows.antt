@@ -26,8 +26,8 @@ module _ (mem : List ℕ) (first size : ℕ) {rows : List ℕ} (cut : rows ≡ t
       ap (λ (l : List ℕ). word l (4 * i + w)) cut ∙ get_or-take (4 * size) (drop first mem) (4 * i + w) 0 (omega arith) ∙ get_or-drop first mem (4 * i + w) 0 ∙ ap (word mem) (omega arith)
 
 module _ (mem : List ℕ) (first : ℕ) (dx : List ℕ) (i : ℕ) {owner : ℕ} (isOwner : owner ≡ word mem (first + 4 * i + 2)) where
-  pub near_read : {wide d : ℕ} → wide ≡ owner % 65536 → d ≡ word dx wide → d ≡ near_at mem first dx i
-  near_read is_wide isNear = isNear ∙ ap (word dx) (is_wide ∙ ap (λ (k : ℕ). k % 65536) isOwner)
+  pub near_read : {d : ℕ} → d ≡ word dx (owner % 65536) → d ≡ near_at mem first dx i
+  near_read isNear = isNear ∙ ap (λ (k : ℕ). word dx (k % 65536)) isOwner
 
 -- a row that shows its own vertex, read
 pub own_read : (mem : List ℕ) (first i : ℕ) {near : ℕ} → near ≡ word mem (first + 4 * i + 1) → eqb near 0 ≡ shows_own mem first i

@@ -8,7 +8,7 @@ ghost use Rattle.words.specs.Lists.{word};
 ghost use Rattle.words.specs.Ranks.{rank};
 ghost use Rattle.row_lists.specs.Rows.{shows_own, Picks, RowsLooked};
 
-use cells::{more, wide, word};
+use cells::{more, word};
 use far_sums::FAR;
 use layout::{RowRecord, row_word};
 pub use lists::RowLists;
@@ -64,7 +64,7 @@ pub fn look<F: Fn(u32, u32, u32) -> bool>(
         let shown = rows[RowRecord::WORDS * i + RowRecord::DISTANCE];
         let owner = rows[RowRecord::WORDS * i + RowRecord::OWN];
         let below = rows[RowRecord::WORDS * i + RowRecord::BELOW];
-        let d = word(dx, wide(owner % RowRecord::CHILD));
+        let d = word(dx, (owner % RowRecord::CHILD) as usize);
         let is = is_asked(d, shown, below);
         lists.places[known] = i as u32;
         lists.near[known] = d;

@@ -5,7 +5,7 @@ ghost use Rattle.std.specs.Prelude.{◌≡◌, ◌+◌, ◌*◌, ◌/◌, ◌%�
 ghost use Rattle.layout.specs.Layout.{below_in_row};
 ghost use Rattle.row_words.specs.Words.{row_in, shown, source_in, placed, unplaced};
 
-use cells::{put, wide, word};
+use cells::{put, word};
 use layout::RowRecord;
 use rows::Row;
 
@@ -33,7 +33,7 @@ pub fn source(mem: &[u32], row: usize) -> Row
     requires { row + below_in_row < length mem.now }
     ensures { result ≡ source_in mem.now row }
 {
-    row_at(mem, wide(mem[row + RowRecord::BELOW]))
+    row_at(mem, mem[row + RowRecord::BELOW] as usize)
 }
 
 // A row as one number: its vertex below UNIT, its distance above. Of two rows whose vertices are below UNIT the one that comes before has the lesser.

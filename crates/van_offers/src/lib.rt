@@ -13,15 +13,15 @@ use best_list::{BestList, Offer};
 use cells::word;
 use counts::Counts;
 use far_sums::{FAR, far_sum};
-use layout::{RowRecord, VanRecord, VertexRecord};
-use places::{van_at, vertex_at};
+use layout::{RowRecord, VanRecord, VertexRecord, record_word};
+use places::{vans_from, vertices_from};
 
 // Word w of a van's record.
 pub fn van_word(mem: &[u32], counts: Counts, van: u32, w: usize) -> u32
     requires { w < words_in_van }
     ensures { result ≡ word mem.now (van_address counts van + w) }
 {
-    word(mem, van_at(counts, van) + w)
+    record_word::<VanRecord>(mem, vans_from(counts), van, w)
 }
 
 // Word w of a vertex's record.
@@ -29,7 +29,7 @@ pub fn vertex_word(mem: &[u32], counts: Counts, vertex: u32, w: usize) -> u32
     requires { w < words_in_vertex }
     ensures { result ≡ word mem.now (vertex_address counts vertex + w) }
 {
-    word(mem, vertex_at(counts, vertex) + w)
+    record_word::<VertexRecord>(mem, vertices_from(counts), vertex, w)
 }
 
 // The list of vans that starts at a link, each at its offset beyond `near`.

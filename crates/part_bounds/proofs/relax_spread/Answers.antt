@@ -29,13 +29,13 @@ loop-asked-preserved c =
     let lists = c.args.lists.now in
     let all = c.requires.1.0 in
     let looked = c.requires.1.1 in
-    let i = c.wide-i.result in
+    let i = word c.asked-asked-items.result.now c.loop-asked.asked-index in
     let here : c.loop-asked.asked-index < lists.count = omega (arith, c.loop-asked-test.true, c.asked-asked-items.ensures.1) in
-    let row_is = asked_turn lists.asked lists.count c.asked-asked-items.ensures.0 here c.wide-i.ensures in
+    let row_is = asked_turn lists.asked lists.count c.asked-asked-items.ensures.0 here refl in
     let w = asked_within looked part.few here row_is in
     let owner-is = row_read mem part.first part.size c.rows_of-rows.ensures i 2 w.0 (omega arith) in
     let least = over_row mem (part.table + part.size * i) part.size lists.places lists.near lists.known c.line_of.ensures (λ s hs. (looked.knows.only s hs).0) c.least_in-way.ensures in
-    let written = c.put.ensures ∙ ap (λ (k : ℕ). set c.loop-asked.dx k c.least_in-way.result) (c.wide.ensures ∙ ap (λ (k : ℕ). k % 65536) owner-is) in
+    let written = c.put.ensures ∙ ap (λ (k : ℕ). set c.loop-asked.dx k c.least_in-way.result) (ap (λ (k : ℕ). k % 65536) owner-is) in
     let child = word c.rows_of-rows.result.now (4 * i + 2) / 65536 in
     let sum = total_more c.loop-asked.waiting.keys child c.far_sum-key.result c.loop-asked.n c.lower_key-n.ensures.0 c.lower_key-n.ensures.2 in
     let fewer = far_lowered c.loop-asked.waiting.keys child c.far_sum-key.result in
@@ -44,7 +44,7 @@ loop-asked-preserved c =
       room = omega (arith, ap far_count c.lower_key-n.ensures.0, fewer, c.loop-asked.invariant.room);
       opened = λ apart.
           let so = c.loop-asked.invariant.opened apart in
-          let key_is = key_read mem part.first _ i (row_read mem part.first part.size c.rows_of-rows.ensures i 3 w.0 (omega arith)) c.wide-below.ensures c.word.ensures (way_is_near all looked apart so.0 here row_is least.most written) c.far_sum-key.ensures in (
+          let key_is = key_read mem part.first _ i (row_read mem part.first part.size c.rows_of-rows.ensures i 3 w.0 (omega arith)) c.word.ensures (way_is_near all looked apart so.0 here row_is least.most written) c.far_sum-key.ensures in (
             closer_next looked so.0 row_is least (as_lowered all looked apart so.0 here row_is least.most written),
             spread_more lists.asked (spread_kept _ (before_kept all looked apart so.0 here row_is least.most written) so.1) c.args.waiting.now.room row_is key_is owner-is refl c.lower_key-n.ensures.0 c.lower_key-n.ensures.1 c.lower_key-n.ensures.2,
           );
@@ -61,6 +61,6 @@ returns c = (
 
 pub invariant_of-waiting : goal.invariant_of-waiting
 invariant_of-waiting c =
-    let child = word c.rows_of-rows.result.now (4 * c.wide-i.result + 2) / 65536 in
+    let child = word c.rows_of-rows.result.now (4 * word c.asked-asked-items.result.now c.loop-asked.asked-index + 2) / 65536 in
     let fewer = far_lowered c.loop-asked.waiting.keys child c.far_sum-key.result in
     record { room = omega (arith, ap far_count c.lower_key-n.ensures.0, fewer, c.loop-asked.invariant.room) }

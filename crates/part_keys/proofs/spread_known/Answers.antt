@@ -28,9 +28,10 @@ loop-place-preserved c =
     let places = c.args.lists.now.places in
     let t = length c.loop-place.yielded in
     let turn = pair_turn places c.args.lists.now.near c.args.lists.now.known c.loop-place.yielded c.into_iter-place-iterator.result c.loop-place.place-iterator c.next.new.self _ (cc) (cc) c.loop-place.yielded_by _ c.in-Some.is c.next.ensures.steps in
-    let row_is : c.wide-i.result ≡ word places t = omega (arith, c.wide-i.ensures, turn.1) in
-    let here : c.wide-i.result < c.args.part.size = omega (arith, row_is, c.requires.1 t turn.0) in
-    let child = word c.rows_of-rows.result.now (4 * c.wide-i.result + 2) / 65536 in
+    let i = c.in-Some.field-0-0.now in
+    let row_is : i ≡ word places t = turn.1 in
+    let here : i < c.args.part.size = omega (arith, row_is, c.requires.1 t turn.0) in
+    let child = word c.rows_of-rows.result.now (4 * i + 2) / 65536 in
     let sum = total_more c.loop-place.waiting.keys child c.far_sum-key.result c.loop-place.n c.lower_key-n.ensures.0 c.lower_key-n.ensures.2 in
     let fewer = far_lowered c.loop-place.waiting.keys child c.far_sum-key.result in
     record {
@@ -38,9 +39,9 @@ loop-place-preserved c =
       room = omega (arith, ap far_count c.lower_key-n.ensures.0, fewer, c.loop-place.invariant.room);
       spread = λ dx nears.
           let near_is = turn.2 ∙ nears t turn.0 ∙ ap (near_at mem first dx) (sym row_is) in
-          let key_is = key_read mem first dx c.wide-i.result (row_read mem first c.args.part.size c.rows_of-rows.ensures c.wide-i.result 3 here (omega arith)) c.wide-below.ensures c.word.ensures near_is c.far_sum-key.ensures in
+          let key_is = key_read mem first dx i (row_read mem first c.args.part.size c.rows_of-rows.ensures i 3 here (omega arith)) c.word.ensures near_is c.far_sum-key.ensures in
           spread_count places (sym (length-append c.loop-place.yielded _))
-          (spread_more places (c.loop-place.invariant.spread dx nears) c.args.waiting.now.room row_is key_is (row_read mem first c.args.part.size c.rows_of-rows.ensures c.wide-i.result 2 here (omega arith)) refl c.lower_key-n.ensures.0 c.lower_key-n.ensures.1 c.lower_key-n.ensures.2);
+          (spread_more places (c.loop-place.invariant.spread dx nears) c.args.waiting.now.room row_is key_is (row_read mem first c.args.part.size c.rows_of-rows.ensures i 2 here (omega arith)) refl c.lower_key-n.ensures.0 c.lower_key-n.ensures.1 c.lower_key-n.ensures.2);
     }
 
 pub returns : goal.returns
@@ -50,6 +51,6 @@ returns c =
 
 pub invariant_of-waiting : goal.invariant_of-waiting
 invariant_of-waiting c =
-    let child = word c.rows_of-rows.result.now (4 * c.wide-i.result + 2) / 65536 in
+    let child = word c.rows_of-rows.result.now (4 * c.in-Some.field-0-0.now + 2) / 65536 in
     let fewer = far_lowered c.loop-place.waiting.keys child c.far_sum-key.result in
     record { room = omega (arith, ap far_count c.lower_key-n.ensures.0, fewer, c.loop-place.invariant.room) }

@@ -28,9 +28,9 @@ loop-i-preserved c =
     let at = c.line.result + c.args.place in
     let way_is : word mem at ≡ word mem (part.table + part.size * i + c.args.place) = ap (λ (k : _). word mem (k + c.args.place)) c.line.ensures in
     record {
-      same_length = ap length c.lower.ensures ∙ lowered_length c.loop-i.dx c.wide.result (word mem at) ∙ c.loop-i.invariant.same_length;
+      same_length = ap length c.lower.ensures ∙ lowered_length c.loop-i.dx _ (word mem at) ∙ c.loop-i.invariant.same_length;
       listing = listing_more c.loop-i.invariant.listing here (search rules) (own_read mem part.first i (row_read mem part.first part.size c.rows_of-rows.ensures i 1 here (omega arith))) refl c.more-count.ensures;
-      closer = λ a. own_next a c.requires.0 (c.loop-i.invariant.closer a) here way_is (omega (arith, c.type_inv.mem at)) (owner_lowered mem part.first part.size i c.loop-i.dx (word mem at) c.rows_of-rows.ensures here c.wide.ensures c.lower.ensures);
+      closer = λ a. own_next a c.requires.0 (c.loop-i.invariant.closer a) here way_is (omega (arith, c.type_inv.mem at)) (owner_lowered mem part.first part.size i c.loop-i.dx (word mem at) c.rows_of-rows.ensures here c.lower.ensures);
     }
 
 pub returns : goal.returns

@@ -15,7 +15,7 @@ loop-i-preserved g c =
     let i = c.loop-i.i in
     let here = c.loop-i-test.true in
     let read = λ (w : _) (h : w < 4). row_read mem first c.args.part.size c.rows_of-rows.ensures i w here h in
-    let near_is = near_read mem first c.args.dx.now i (read 2 (omega arith)) c.wide.ensures c.word-d.ensures in (
+    let near_is = near_read mem first c.args.dx.now i (read 2 (omega arith)) c.word-d.ensures in (
       omega (arith, c.more-known.ensures.1),
       omega (arith, c.more-count.ensures.1),
       λ test picks.

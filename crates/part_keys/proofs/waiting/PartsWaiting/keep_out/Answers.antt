@@ -8,4 +8,4 @@ use Rattle.part_keys.proofs.waiting.PartsWaiting.keep_out.Goals as goal
 
 pub invariant_of-self : goal.invariant_of-self
 invariant_of-self c =
-    record { room = omega (arith, ap far_count c.lower.ensures, far_lowered c.args.self.now.keys c.wide.result 0, c.args.self.now.room) }
+    record { room = omega (arith, ap far_count c.lower.ensures, far_lowered c.args.self.now.keys c.args.part 0, c.args.self.now.room) }
