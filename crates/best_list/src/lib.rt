@@ -23,10 +23,10 @@ impl Offer {
     }
 }
 
-// Room for 32 offers, of which the first `len` are listed, and how many may be.
+// Room for offers, of which the first `len` are listed, and how many may be.
 #[derive(Drop)]
 pub struct BestList {
-    offers: [Offer; 32],
+    offers: [Offer; BestList::MOST],
     len: usize,
     k: usize,
 }
@@ -43,13 +43,16 @@ impl Model for BestList {
 }
 
 impl BestList {
+    // No list has more vans.
+    pub const MOST: usize = 32;
+
     // Nothing is listed yet.
     pub fn new(k: usize) -> Self
         requires { (1 ≤ k) × (k ≤ 32) }
         ensures { result ≡ record { offers = []; k = k } }
     {
         BestList {
-            offers: [Offer { far: 0, van: 0 }; 32],
+            offers: [Offer { far: 0, van: 0 }; BestList::MOST],
             len: 0,
             k,
         }
@@ -65,7 +68,8 @@ impl BestList {
         &self.offers[..self.len]
     }
 
-    // What is farther than this is not listed any more: the distance of the k-th van, and 4,294,967,294 while there are fewer.
+    // What is farther than this is not listed any more: the distance of the k-th van, and while there are fewer 4,294,967,294, one less than
+    // FAR: no Option, since every distance is compared with it, and nothing at FAR is within it.
     pub fn limit(&self) -> u32
         ensures { (stampOf : ℕ → ℕ) → result ≡ limit_of self.now.k (entries stampOf self.now) }
     {

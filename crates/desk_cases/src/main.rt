@@ -6,6 +6,7 @@
 ghost use Rattle.std.specs.Prelude.{◌≤◌, IfOk, IfSome, length};
 
 use desk_steps::{begin, turn};
+use layout::{HeadRecord, PartRecord};
 use packs::{read_file, split_item};
 use std::io;
 use std::rt::Files;
@@ -13,15 +14,16 @@ use std::rt::Files;
 // All rows: from the first row of the root to the end of the words used, four words each.
 fn write_rows(rt: &impl Print, memory: &[u32; 16384], place: u32) -> io::Result<()> {
     print!(rt; "{place} rows")?;
-    let rows = memory.get(memory[66] as usize..memory[1] as usize);
+    let first = memory[HeadRecord::WORDS + PartRecord::ROWS] as usize;
+    let rows = memory.get(first..memory[HeadRecord::USED] as usize);
     for [vertex, distance, ..] in rows.unwrap_or(&[]).as_chunks::<4>().0 {
         print!(rt; " {vertex}:{distance}")?;
     }
     println!(rt; "")
 }
 
-// The first record, which is for `place`: how many bytes it takes, and None where the last line is written. An accepted change is counted in the sixth
-// word. An error is one of writing; the memory is as the call left it.
+// The first record, which is for `place`: how many bytes it takes, and None where the last line is written. An accepted change is counted in the head.
+// An error is one of writing; the memory is as the call left it.
 fn step(
     rt: &impl Print,
     memory: &mut [u32; 16384],
@@ -34,10 +36,10 @@ fn step(
 {
     let mut answer = [0u32; 96];
     let mut out = [0u8; 2048];
-    let changes = memory[5];
+    let changes = memory[HeadRecord::COUNT];
     let next = turn(input, memory, &mut answer, &mut out, 0, place);
     rt.write_all(&out[..next.end])?;
-    if rows && memory[5] != changes {
+    if rows && memory[HeadRecord::COUNT] != changes {
         write_rows(rt, memory, place)?;
     }
     Ok(next.taken)

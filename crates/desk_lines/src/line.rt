@@ -1,9 +1,10 @@
-// The lines that the desk program writes, into a lent buffer. A store past the buffer's end changes nothing.
+// The lines that the desk program writes, into a lent buffer. A store past the buffer's end changes nothing, and what is past the line stays: no `fmt::Write` of `std`
+// writes so, so there is no `Display`.
 ghost use Rattle.std.specs.Prelude.{◌≡◌, ◌+◌, ◌≤◌, ◌<◌, ◌++◌, ◌∷◌, [], length, map, set};
 ghost use Rattle.desk_lines.specs.Line.{codes, digits, decimal, spaced, text_of};
 ghost use Rattle.desk_lines.specs.Written.{Wrote};
 
-// A line but for its text: each starts with the place of its call, the opening being 0.
+// A line but for its text: each starts with the place of its call, the opening being 0. A refusal is the number that the line shows, by which `text_of` names it.
 #[derive(Clone, Copy)]
 pub enum Line {
     Opened {

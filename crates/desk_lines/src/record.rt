@@ -40,7 +40,7 @@ pub fn take_map(bytes: &[u8]) -> Option<usize>
     ensures { result ≡ take_records 4 0 bytes.now }
 {
     let mut at: usize = 0;
-    for _i in 0..4u32 {
+    for _ in 0..4 {
         if bytes.len() < at + 4 {
             return Some(at);
         }
@@ -56,7 +56,7 @@ pub fn take_map(bytes: &[u8]) -> Option<usize>
 fn number1(bytes: &[u8], at: usize) -> u32
     ensures { result ≡ field bytes.now at 1 }
 {
-    bytes.get(at).map_or(0, |b| *b as u32)
+    bytes.get(at).map_or(0, |b| u32::from(*b))
 }
 
 #[tactic(auto, unfolding(crate::specs::Read::place_of))]

@@ -1,4 +1,5 @@
 // The steps of the desk program on the bytes that it has read: the opening, and then one call after the other. The lines of a step go into a lent buffer.
+// No struct holds the buffer and the place in it, as in `desk_lines`: each of its methods would have to ensure that it holds the same `&mut` still.
 #![tactic(auto)]
 
 ghost use Rattle.std.specs.Prelude.{◌≡◌, ◌∷◌, [], ◌+◌, ◌≤◌, length, take, drop};

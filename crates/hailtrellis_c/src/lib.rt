@@ -16,19 +16,21 @@ pub struct HailtrellisReply {
     pub value: u32,
 }
 
-fn replied(reply: Reply) -> HailtrellisReply
-    ensures { result ≡ reply_of (answered reply) }
-{
-    let code = answers::number(reply);
-    let value = answers::value(reply);
-    HailtrellisReply { code, value }
+impl From<Reply> for HailtrellisReply {
+    ghost from_gives = { λ reply r. r ≡ reply_of (answered reply) };
+
+    fn from(reply: Reply) -> HailtrellisReply {
+        let code = answers::number(reply);
+        let value = answers::value(reply);
+        HailtrellisReply { code, value }
+    }
 }
 
 #[unsafe(no_mangle)]
 pub extern "C" fn hailtrellis_open(map: &[u8], memory: &mut [u32], start: u32) -> HailtrellisReply
     ensures { Replied (λ a. Opened map.now memory.old start a memory.new) result }
 {
-    replied(hailtrellis::open(map, memory, start))
+    hailtrellis::open(map, memory, start).into()
 }
 
 #[unsafe(no_mangle)]
@@ -41,7 +43,7 @@ pub extern "C" fn hailtrellis_add(
 ) -> HailtrellisReply
     ensures { Replied (λ a. Added memory.old van from to offset a memory.new) result }
 {
-    replied(hailtrellis::add(memory, van, from, to, offset))
+    hailtrellis::add(memory, van, from, to, offset).into()
 }
 
 #[unsafe(no_mangle)]
@@ -54,14 +56,14 @@ pub extern "C" fn hailtrellis_move(
 ) -> HailtrellisReply
     ensures { Replied (λ a. Moved memory.old van from to offset a memory.new) result }
 {
-    replied(hailtrellis::move_van(memory, van, from, to, offset))
+    hailtrellis::move_van(memory, van, from, to, offset).into()
 }
 
 #[unsafe(no_mangle)]
 pub extern "C" fn hailtrellis_remove(memory: &mut [u32], van: u32) -> HailtrellisReply
     ensures { Replied (λ a. Removed memory.old van a memory.new) result }
 {
-    replied(hailtrellis::remove(memory, van))
+    hailtrellis::remove(memory, van).into()
 }
 
 #[unsafe(no_mangle)]
@@ -73,14 +75,14 @@ pub extern "C" fn hailtrellis_claim(
 ) -> HailtrellisReply
     ensures { Replied (λ a. Claimed memory.old van stamp desk a memory.new) result }
 {
-    replied(hailtrellis::claim(memory, van, stamp, desk))
+    hailtrellis::claim(memory, van, stamp, desk).into()
 }
 
 #[unsafe(no_mangle)]
 pub extern "C" fn hailtrellis_release(memory: &mut [u32], van: u32, desk: u32) -> HailtrellisReply
     ensures { Replied (λ a. Released memory.old van desk a memory.new) result }
 {
-    replied(hailtrellis::release(memory, van, desk))
+    hailtrellis::release(memory, van, desk).into()
 }
 
 #[unsafe(no_mangle)]
@@ -92,12 +94,12 @@ pub extern "C" fn hailtrellis_question(
 ) -> HailtrellisReply
     ensures { Replied (λ a. Asked memory.now vertex k answer.old a answer.new) result }
 {
-    replied(hailtrellis::question(memory, vertex, k, answer))
+    hailtrellis::question(memory, vertex, k, answer).into()
 }
 
 #[unsafe(no_mangle)]
 pub extern "C" fn hailtrellis_road(memory: &[u32], from: u32, to: u32) -> HailtrellisReply
     ensures { Replied (LookedUp memory.now from to) result }
 {
-    replied(hailtrellis::road(memory, from, to))
+    hailtrellis::road(memory, from, to).into()
 }

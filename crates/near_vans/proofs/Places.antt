@@ -8,14 +8,14 @@ use native.Mathlib.Omega.{arith}
 use lib.ListN.{get_or, get_or-map}
 use Rattle.std.specs.Prelude.{map}
 use Rattle.words.specs.Lists.{word}
-use Rattle.near_vans.specs.declared.front.Waiting.{Waiting}
+use Rattle.near_vans.specs.declared.front.WaitingVertex.{WaitingVertex}
 use Rattle.near_vans.specs.Around.{LeastLabel}
 
-pub label_at : (ws : List Waiting) (i : ℕ) → word (map (λ w. w.label) ws) i ≡ (get_or ws i (record { label = 0; vertex = 0 })).label
-label_at ws i = get_or-map (λ (w : Waiting). w.label) ws i (record { label = 0; vertex = 0 })
+pub label_at : (ws : List WaitingVertex) (i : ℕ) → word (map (λ w. w.label) ws) i ≡ (get_or ws i (record { label = 0; vertex = 0 })).label
+label_at ws i = get_or-map (λ (w : WaitingVertex). w.label) ws i (record { label = 0; vertex = 0 })
 
-pub vertex_at : (ws : List Waiting) (i : ℕ) → word (map (λ w. w.vertex) ws) i ≡ (get_or ws i (record { label = 0; vertex = 0 })).vertex
-vertex_at ws i = get_or-map (λ (w : Waiting). w.vertex) ws i (record { label = 0; vertex = 0 })
+pub vertex_at : (ws : List WaitingVertex) (i : ℕ) → word (map (λ w. w.vertex) ws) i ≡ (get_or ws i (record { label = 0; vertex = 0 })).vertex
+vertex_at ws i = get_or-map (λ (w : WaitingVertex). w.vertex) ws i (record { label = 0; vertex = 0 })
 
 -- The least label.
 

@@ -11,14 +11,14 @@ const ROOM: usize = 128;
 const MOST_ROADS: usize = 64;
 
 // How many vertices a map has at most.
-const VERTICES: u32 = 4096;
+const VERTICES: u32 = Counts::MOST_VERTICES;
 
 // In `at`: a vertex that was taken. Else 0, or 1 + the vertex's place among those that wait.
 const TAKEN: u8 = 255;
 
 // A vertex that waits, with its label.
 #[derive(Clone, Copy)]
-struct Waiting {
+struct WaitingVertex {
     label: u32,
     vertex: u32,
 }
@@ -27,7 +27,7 @@ struct Waiting {
 #[derive(Drop)]
 pub struct Front {
     at: [u8; 4096],
-    waiting: [Waiting; 128],
+    waiting: [WaitingVertex; ROOM],
     len: usize,
 }
 
@@ -53,10 +53,10 @@ impl Front {
     {
         Front {
             at: [0; 4096],
-            waiting: [Waiting {
+            waiting: [WaitingVertex {
                 label: 0,
                 vertex: 0,
-            }; 128],
+            }; ROOM],
             len: 0,
         }
     }
@@ -108,7 +108,8 @@ impl Front {
         }
     }
 
-    // A vertex was met at distance `far`: it waits now, with no more than that, if it was not taken. There may be no room.
+    // A vertex was met at distance `far`: it waits now, with no more than that, if it was not taken. There may be no room: None, and `?`
+    // gives up the search, as for whoever asked it.
     pub fn meet(&mut self, vertex: u32, far: u32) -> Option<()>
         ensures { IfSome result (λ _. Met (vertex % 4096) far self.old self.new) }
     {
@@ -125,7 +126,7 @@ impl Front {
         if self.len == ROOM {
             return None;
         }
-        self.waiting[self.len] = Waiting {
+        self.waiting[self.len] = WaitingVertex {
             label: far,
             vertex: u as u32,
         };

@@ -37,6 +37,7 @@ pub fn near_vans(mem: &[u32], x: u32, k: usize) -> Option<BestList>
         }
         let v = front.take(i);
         let link = vertex_word(mem, counts, v, VertexRecord::VANS);
+        // most vertices have no van: for these the list's limit is not read once more
         if link != 0 {
             offer_vans(mem, counts, link, near, &mut list);
         }

@@ -26,7 +26,7 @@ fn digest(words: &[u32]) -> u64
 {
     let mut sum: u64 = 0;
     for word in words {
-        sum = (sum * 31 + *word as u64) % 4294967291;
+        sum = (sum * 31 + u64::from(*word)) % 4294967291;
     }
     sum
 }

@@ -16,7 +16,7 @@ use far_sums::{FAR, far_sum};
 use layout::RowRecord;
 use part_words::PartRows;
 use row_lists::{RowLists, rows_of};
-pub use waiting::{PartsWaiting, Waiting};
+pub use waiting::{PartsWaiting, WaitingPart};
 
 mod waiting;
 
@@ -30,8 +30,8 @@ fn joins(old: u32, key: u32) -> bool
 // A part's key made less, where `key` is less. A part that had none joins those that wait: the word behind the last of them is written in any case, and counts if
 // the part is new. How many wait is kept beside the arrays from row to row, not stored for each.
 pub fn lower_key(
-    keys: &mut [u32; 512],
-    waits: &mut [u32; 512],
+    keys: &mut [u32; PartsWaiting::MOST],
+    waits: &mut [u32],
     count: usize,
     part: u32,
     key: u32,

@@ -9,25 +9,29 @@ ghost use Rattle.part_keys.specs.Keys.{far_count, Nearest};
 use cells::{lower, word};
 use far_sums::FAR;
 
-// The keys of all parts, FAR where one has none yet, and the parts that wait: the first n of `waits`. A part joins them when it gets its first key.
+// The keys of all parts, FAR where one has none yet, and the parts that wait: the first n of `waits`. A part joins them when it gets its first key. FAR is the top of
+// the order, so `min` and `<` need no case for a part without a key; distances have it for "none yet" likewise.
 #[derive(Drop)]
 pub struct PartsWaiting {
-    pub keys: [u32; 512],
-    pub waits: [u32; 512],
+    pub keys: [u32; PartsWaiting::MOST],
+    pub waits: [u32; PartsWaiting::MOST],
     pub n: usize,
     pub ghost room: { far_count keys + n ≤ 512 },
 }
 
 // One of the parts that wait, by its place, and its key.
 #[derive(Clone, Copy)]
-pub struct Waiting {
+pub struct WaitingPart {
     pub at: usize,
     pub key: u32,
 }
 
 impl PartsWaiting {
+    // A map has at most so many parts.
+    pub const MOST: usize = 512;
+
     // The least key of the parts that wait, from the one at `from` on, and its place.
-    pub fn nearest(&self, from: usize) -> Option<Waiting>
+    pub fn nearest(&self, from: usize) -> Option<WaitingPart>
         ensures { MatchOption result (Nearest self.now.keys self.now.waits from self.now.n FAR from) (λ w. (w.key < FAR) × Nearest self.now.keys self.now.waits from self.now.n w.key w.at) }
     {
         let mut least = FAR;
@@ -40,7 +44,7 @@ impl PartsWaiting {
             }
         }
         if least < FAR {
-            Some(Waiting { at, key: least })
+            Some(WaitingPart { at, key: least })
         } else {
             None
         }

@@ -32,7 +32,7 @@ use Rattle.part_bounds.specs.Bounds.{OpenedUp}
 use Rattle.part_keys.specs.Keys.{Nearest, far_count}
 use Rattle.part_keys.proofs.Spreading.{far_lowered}
 use Rattle.part_keys.proofs.Nearest.{nearest_all}
-use Rattle.part_keys.specs.declared.waiting.Waiting.{Waiting}
+use Rattle.part_keys.specs.declared.waiting.WaitingPart.{WaitingPart}
 use Rattle.part_keys.specs.declared.waiting.PartsWaiting.{PartsWaiting}
 use Rattle.row_lists.specs.declared.lists.RowLists.{RowLists}
 use Rattle.question.specs.declared.search.Search.{Search}
@@ -212,16 +212,16 @@ module _ (mem dx : List ℕ) (st : Search) {key limit least place : ℕ} (is_key
   turn_up (Some n) dx' st' within nearer up = turn_climbs within nearer up
 
 -- the nearest of those that wait, and its key, FAR where none does
-pub key_place : {keys waits : List ℕ} {n : ℕ} (r : Option Waiting) {key : ℕ} → MatchOption r (Nearest keys waits 0 n FAR 0) (λ w. (w.key < FAR) × Nearest keys waits 0 n w.key w.at)
+pub key_place : {keys waits : List ℕ} {n : ℕ} (r : Option WaitingPart) {key : ℕ} → MatchOption r (Nearest keys waits 0 n FAR 0) (λ w. (w.key < FAR) × Nearest keys waits 0 n w.key w.at)
     → MatchOption r (key ≡ FAR) (λ w. key ≡ w.key) → (place : ℕ) × Nearest keys waits 0 n key place
 key_place {keys} {waits} {n} None nearest is = (0, subst⁻¹ (λ (k : ℕ). Nearest keys waits 0 n k 0) is nearest)
 key_place {keys} {waits} {n} (Some w) nearest is = (w.at, subst⁻¹ (λ (k : ℕ). Nearest keys waits 0 n k w.at) is nearest.1)
 
-pub key_some : (r : Option Waiting) {key : ℕ} {w : Waiting} → MatchOption r (key ≡ FAR) (λ v. key ≡ v.key) → r ≡ Some w → key ≡ w.key
-key_some r {key} is e = subst (λ (o : Option Waiting). MatchOption o (key ≡ FAR) (λ v. key ≡ v.key)) e is
+pub key_some : (r : Option WaitingPart) {key : ℕ} {w : WaitingPart} → MatchOption r (key ≡ FAR) (λ v. key ≡ v.key) → r ≡ Some w → key ≡ w.key
+key_some r {key} is e = subst (λ (o : Option WaitingPart). MatchOption o (key ≡ FAR) (λ v. key ≡ v.key)) e is
 
-pub key_none : (r : Option Waiting) {key : ℕ} → MatchOption r (key ≡ FAR) (λ v. key ≡ v.key) → r ≡ None → key ≡ FAR
-key_none r {key} is e = subst (λ (o : Option Waiting). MatchOption o (key ≡ FAR) (λ v. key ≡ v.key)) e is
+pub key_none : (r : Option WaitingPart) {key : ℕ} → MatchOption r (key ≡ FAR) (λ v. key ≡ v.key) → r ≡ None → key ≡ FAR
+key_none r {key} is e = subst (λ (o : Option WaitingPart). MatchOption o (key ≡ FAR) (λ v. key ≡ v.key)) e is
 
 -- the turns so far, and one more
 pub on_and_on : {mem dx₀ : List ℕ} {st₀ : Search} {dx : List ℕ} {st : Search} {dx' : List ℕ} {st' : Search}

@@ -16,7 +16,7 @@ use far_sums::FAR;
 use layout::{HeadRecord, PartRecord, VanRecord, VertexRecord, part_word};
 use near_vans::near_vans;
 use part_keys::PartsWaiting;
-use part_words::row_count;
+use part_words::{MOST_ROWS, row_count};
 use places::counts_in;
 use row_lists::{RowLists, active_rows};
 use search::Search;
@@ -85,15 +85,16 @@ fn search_with(mem: &[u32], x: u32, k: usize, dx: &mut [u32]) -> BestList
 {
     let mut search = Search {
         waiting: PartsWaiting {
-            keys: [FAR; 512],
-            waits: [FAR; 512],
+            keys: [FAR; PartsWaiting::MOST],
+            // Both filled with one word: the compiler then fills them in place, and copies none.
+            waits: [FAR; PartsWaiting::MOST],
             n: 0,
         },
         lists: RowLists {
-            places: [0; 128],
-            near: [0; 128],
+            places: [0; MOST_ROWS],
+            near: [0; MOST_ROWS],
             known: 0,
-            asked: [0; 128],
+            asked: [0; MOST_ROWS],
             count: 0,
         },
         best: BestList::new(k),

@@ -17,13 +17,14 @@ use cells::put;
 use far_sums::FAR;
 use layout::{PartRecord, VertexRecord, part_word};
 use part_bounds::open_up;
-use part_keys::{PartsWaiting, Waiting};
+use part_keys::{PartsWaiting, WaitingPart};
 use places::counts_in;
 use row_distances::{relax_leaf, relax_own, way_out};
 use row_lists::RowLists;
 use van_offers::{offer_rows, vertex_word};
 
 // A search between two turns: the parts that wait, the rows looked at last, the vans listed, the part climbed to, and the bound of what lies outside it.
+// The memory and `dx` are lent to each method: a struct that holds a `&mut` would have to ensure at each that it holds the same one still.
 #[derive(Drop)]
 pub struct Search {
     pub waiting: PartsWaiting,
@@ -37,7 +38,7 @@ pub struct Search {
 fn offer_leaf(mem: &[u32], leaf: u32, dx: &[u32], lists: &RowLists, best: &mut BestList)
     ensures { (best.new.k ≡ best.old.k) × (list_in mem.now best.new ≡ offered_all best.old.k (list_in mem.now best.old) (row_offers mem.now (counts_in mem.now) (part_word mem.now leaf rows_in_part) dx.now (take lists.now.count lists.now.asked))) }
 {
-    let first = part_word(mem, leaf, PartRecord::ROWS) as usize;
+    let first = part_word(mem, leaf, PartRecord::ROWS);
     offer_rows(mem, counts_in(mem), first, lists.asked(), dx, best);
 }
 
@@ -52,7 +53,7 @@ fn bound_outside(mem: &[u32], part: u32, dx: &[u32]) -> u32
 }
 
 // The key of the nearest of the parts that wait, FAR where there is none.
-fn key_of(nearest: Option<Waiting>) -> u32
+fn key_of(nearest: Option<WaitingPart>) -> u32
     ensures { MatchOption nearest (result ≡ FAR) (λ w. result ≡ w.key) }
 {
     nearest.map_or(FAR, |nearest| nearest.key)
@@ -115,6 +116,7 @@ impl Search {
         ensures { (self.new.best.k ≡ self.old.best.k) × ((m : Map) (fleet : State) (x : ℕ) → Genuine m fleet mem.now → x < m.vertices → Searching m fleet x mem.now dx.old self.old → list_in mem.now self.new.best ≡ nearest m fleet x self.old.best.k) }
     {
         let mut joined = 0;
+        // the proof names the loop by its label
         'turns: while let Some(next) = self.turn(mem, dx, joined) {
             joined = next;
         }
@@ -129,7 +131,7 @@ impl Search {
         let leaf = vertex_word(mem, counts, x, VertexRecord::LEAF);
         let place = vertex_word(mem, counts, x, VertexRecord::PLACE);
         put(dx, x as usize, 0);
-        relax_own(mem, leaf, place, dx, &mut self.lists);
+        relax_own(mem, leaf, place as usize, dx, &mut self.lists);
         offer_leaf(mem, leaf, dx, &self.lists, &mut self.best);
         self.waiting.keep_out(leaf);
         self.part = leaf;

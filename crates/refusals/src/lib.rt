@@ -1,5 +1,6 @@
 // What a change gets, but for the head, the ranges and the change count: how the van is to stand, or the first refusal that applies. The memory is only
 // read. The tests are those of the definitions, on the words of the van and of the road; any words are taken.
+// A memory and its counts are no struct: what reads is lent `&[u32]` and what changes `&mut [u32]`, and a struct holds only one of these.
 #![tactic(auto)]
 
 ghost use Rattle.std.specs.Prelude.{◌≡◌, ◌<◌};
@@ -20,7 +21,8 @@ fn road_weight(mem: &[u32], counts: Counts, road: u32) -> u32
     word(mem, road_at(counts, road) + RoadRecord::WEIGHT)
 }
 
-// A place on the road from `from` to `to`; the van's first word is `state`.
+// A place on the road from `from` to `to`; the van's first word is `state`. The three numbers of a place are fields of an add and of a move, and of no struct: the
+// scope's `Change` has them so.
 fn placing(
     mem: &[u32],
     counts: Counts,

@@ -54,7 +54,7 @@ pub fn relax_leaf(mem: &[u32], p: u32, dx: &mut [u32], lists: &mut RowLists)
         lists.count = 0;
         return;
     };
-    look(mem, part, dx, lists, |_, shown, _| shown == 0);
+    look(mem, part, dx, lists, |_near, shown, _below| shown == 0);
     relax_asked(mem, part, dx, lists);
 }
 
@@ -81,10 +81,9 @@ fn lower_rows(mem: &[u32], part: PartRows, place: usize, dx: &mut [u32], lists: 
 
 // The rows of a leaf of which only the one at `place` has a distance, 0: each gets what the table says to that one. Those that show their own vertex are listed by
 // their numbers. No row is listed where the leaf does not lie within the memory, or has no such row.
-pub fn relax_own(mem: &[u32], p: u32, place: u32, dx: &mut [u32], lists: &mut RowLists)
+pub fn relax_own(mem: &[u32], p: u32, place: usize, dx: &mut [u32], lists: &mut RowLists)
     ensures { Fits mem.now p → place < rows_in mem.now p → (Alone mem.now (part_word mem.now p rows_in_part) (rows_in mem.now p) dx.old place → Relaxed mem.now p true dx.old dx.new) × (take lists.new.count lists.new.asked ≡ own_rows mem.now p) }
 {
-    let place = place as usize;
     match part_rows(mem, p) {
         Some(part) if place < part.size => lower_rows(mem, part, place, dx, lists),
         _ => lists.count = 0,

@@ -2,14 +2,16 @@
 
 ghost use Rattle.std.specs.Prelude.{◌≡◌, ◌≤◌, length, take};
 
+use part_words::MOST_ROWS;
+
 // The rows whose vertices have a distance to the vertex asked at, the first `known` of `places`, each with its distance in `near`; and the rows whose distance is
 // asked for, the first `count` of `asked`.
 #[derive(Drop)]
 pub struct RowLists {
-    pub places: [u32; 128],
-    pub near: [u32; 128],
+    pub places: [u32; MOST_ROWS],
+    pub near: [u32; MOST_ROWS],
     pub known: usize,
-    pub asked: [u32; 128],
+    pub asked: [u32; MOST_ROWS],
     pub count: usize,
     pub ghost few: { (known ≤ 128) × (count ≤ 128) },
 }

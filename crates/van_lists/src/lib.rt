@@ -1,6 +1,7 @@
 // The free vans that head for a vertex, linked in rising van number: the vertex's record has the first, a van's record the next.
 // A van is taken out of such a list, put in, or written anew in its place. Every function says what it does to any list of words, so forged
 // words harm nothing; what that means of the words of a fleet is proved about the definitions.
+// A memory and its counts are no struct: what reads is lent `&[u32]` and what changes `&mut [u32]`, and a struct holds only one of these.
 #![tactic(auto)]
 
 ghost use Rattle.std.specs.Prelude.{◌≡◌, ◌<◌};

@@ -1,7 +1,8 @@
 // The free vans that head for a vertex, and those that head for the vertices of some rows, offered to the list of the best.
+// A memory and its counts are no struct: what reads is lent `&[u32]` and what changes `&mut [u32]`, and a struct holds only one of these.
 #![tactic(auto)]
 
-ghost use Rattle.std.specs.Prelude.{◌≡◌, ◌+◌, ◌<◌, ◌^◌};
+ghost use Rattle.std.specs.Prelude.{◌≡◌, ◌+◌, ◌<◌};
 ghost use Rattle.words.specs.Limits.{vans as mostVans};
 ghost use Rattle.words.specs.Lists.{word};
 ghost use Rattle.layout.specs.Layout.{words_in_vertex, words_in_van};
@@ -56,17 +57,16 @@ pub fn offer_vans(mem: &[u32], counts: Counts, first: u32, near: u32, list: &mut
 pub fn offer_rows(
     mem: &[u32],
     counts: Counts,
-    first: usize,
+    first: u32,
     rows: &[u32],
     dx: &[u32],
     list: &mut BestList,
 )
-    requires { first < 2 ^ 32 }
     ensures k { list.new.k ≡ list.old.k }
     ensures list { entries (stamp_in mem.now counts) list.new ≡ offered_all list.old.k (entries (stamp_in mem.now counts) list.old) (row_offers mem.now counts first dx.now rows.now) }
 {
     for i in rows {
-        let row = first + RowRecord::WORDS * *i as usize;
+        let row = first as usize + RowRecord::WORDS * *i as usize;
         let v = word(mem, row + RowRecord::OWN) % RowRecord::CHILD;
         let near = word(dx, v as usize);
         if near < FAR {

@@ -8,21 +8,21 @@ use Rattle.desk_lines.proofs.Taking.{none_left, take_ended, take_long, take_next
 use Rattle.desk_lines.proofs.record.take_map.Goals as goal
 
 pub returns-then-bytes-at : goal.returns-then-bytes-at
-returns-then-bytes-at c = sym (take_ended c.args.bytes.now c.loop-i.at (4 - c.loop-i._i) (omega arith) c.if-bytes-at.true) ∙ c.loop-i.invariant.1
+returns-then-bytes-at c = sym (take_ended c.args.bytes.now c.loop.at (4 - c.loop.counter) (omega arith) c.if-bytes-at.true) ∙ c.loop.invariant.1
 
 pub returns-then-at-gt-MAP_ROOM : goal.returns-then-at-gt-MAP_ROOM
 returns-then-at-gt-MAP_ROOM c =
-    sym (take_long c.args.bytes.now c.loop-i.at _ c.number4.ensures (4 - c.loop-i._i) (omega arith) c.if-bytes-at.false (omega arith)) ∙ c.loop-i.invariant.1
+    sym (take_long c.args.bytes.now c.loop.at _ c.number4.ensures (4 - c.loop.counter) (omega arith) c.if-bytes-at.false (omega arith)) ∙ c.loop.invariant.1
 
-pub loop-i-preserved : goal.loop-i-preserved
-loop-i-preserved c =
-    let left : 4 - (c.loop-i._i + 1) ≡ 4 - c.loop-i._i - 1 = omega arith in
-    let end : c.loop-i.at + (4 + c.number4.result) ≡ c.loop-i.at + 4 + c.number4.result = omega arith in (
+pub loop-preserved : goal.loop-preserved
+loop-preserved c =
+    let left : 4 - (c.loop.counter + 1) ≡ 4 - c.loop.counter - 1 = omega arith in
+    let end : c.loop.at + (4 + c.number4.result) ≡ c.loop.at + 4 + c.number4.result = omega arith in (
       omega arith,
       (λ k. take_records (left k) (end k) c.args.bytes.now)
-          ∙ sym (take_next c.args.bytes.now c.loop-i.at _ c.number4.ensures (4 - c.loop-i._i) (omega arith) c.if-bytes-at.false (omega arith))
-          ∙ c.loop-i.invariant.1,
+          ∙ sym (take_next c.args.bytes.now c.loop.at _ c.number4.ensures (4 - c.loop.counter) (omega arith) c.if-bytes-at.false (omega arith))
+          ∙ c.loop.invariant.1,
     )
 
 pub returns : goal.returns
-returns c = sym (none_left c.args.bytes.now c.loop-i.at (4 - c.loop-i._i) (omega arith)) ∙ c.loop-i.invariant.1
+returns c = sym (none_left c.args.bytes.now c.loop.at (4 - c.loop.counter) (omega arith)) ∙ c.loop.invariant.1

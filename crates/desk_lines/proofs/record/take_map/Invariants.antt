@@ -3,5 +3,5 @@ use Prim.Native.Nat.{◌-◌, ◌≤◌}
 use Rattle.desk_lines.specs.Read.{take_records}
 use Rattle.desk_lines.proofs.record.take_map.Given as goal
 
-abbrev pub invariant-loop-i : goal.invariant-loop-i
-invariant-loop-i l = (l.at ≤ 65536) × (take_records (4 - l._i) l.at l.bytes ≡ take_records 4 0 l.bytes)
+abbrev pub invariant-loop : goal.invariant-loop
+invariant-loop l = (l.at ≤ 65536) × (take_records (4 - l.counter) l.at l.bytes ≡ take_records 4 0 l.bytes)
