@@ -45,7 +45,7 @@ pub enum Refusal {
 }
 
 impl Refusal {
-    // The scope's number.
+    // The scope's number. By arms, since enum cases with one number would not compile, and that no two refusals have one is to be proved (edit two_refusals_of_one_number).
     pub fn number(self) -> u32
         ensures { result ≡ number_of (answered (Err self)) }
     {

@@ -1,4 +1,4 @@
-// Sums of distances: FAR, 4,294,967,295, is the top of the order, and a sum that would pass it is FAR.
+// Sums of distances: FAR, 4,294,967,295, is the top of the order, and a sum that would pass it is FAR. No Option: sums and the least of two need no case, and a memory's words say FAR.
 #![tactic(auto)]
 
 ghost use Rattle.std.specs.Prelude.{◌≡◌, ◌+◌, min};

@@ -1,5 +1,5 @@
 // Where the words of a memory stand: how many words a record has, and which of them says what. `specs/Layout.antt` names the same numbers for
-// contracts, and each section's start. Words that have no name are 0, room for what is still to come.
+// contracts, and each section's start. Words that have no name are 0, room for what is still to come. Words are told apart by numbers and no enum: they are the memory's format.
 #![tactic(auto)]
 
 ghost use Rattle.std.specs.Prelude.{◌≡◌, ℕ, ◌+◌, ◌*◌, ◌^◌, ◌≤◌, ◌<◌};
@@ -9,7 +9,7 @@ ghost use Rattle.layout.specs.Layout.{words_in_part, words_in_vertex, words_in_r
 
 use cells::word;
 
-// A kind of record, of which a section has one after the other: how many words each has.
+// A kind of record, of which a section has one after the other: how many words each has. Each kind names them itself too, so that who writes `PartRecord::WORDS` need not know the trait.
 pub trait Record {
     const WORDS: usize;
 
@@ -147,6 +147,7 @@ impl Record for VanRecord {
 
 impl VanRecord {
     pub const WORDS: usize = 8;
+
     // How many vans have a record: their numbers are below it.
     pub const VANS: u32 = 1024;
 
@@ -175,6 +176,7 @@ impl Record for RowRecord {
 
 impl RowRecord {
     pub const WORDS: usize = 4;
+
     // The nearest active vertex, and its distance.
     pub const VERTEX: usize = 0;
 

@@ -48,7 +48,7 @@ fn lift_road(parents: &[u32], leaves: &[u32], body: &[u8], i: u32, lifts: &mut [
     lower(lifts, road.to as usize, x);
 }
 
-// Every road lowers the lifts of its ends. They start at 65,535.
+// Every road lowers the lifts of its ends. They start at 65,535, above every part's number, and no Option: each is the least of such numbers, and is only compared.
 fn lift_all(parents: &[u32], leaves: &[u32], body: &[u8], roads: u32) -> [u32; 4096]
     ensures { Lifted parents.now leaves.now body.now roads result }
 {
@@ -59,7 +59,7 @@ fn lift_all(parents: &[u32], leaves: &[u32], body: &[u8], roads: u32) -> [u32; 4
     lifts
 }
 
-// Counts a vertex for each part that it is a border of: the parents of the parts above its lift, from its leaf upward.
+// Counts a vertex for each part that it is a border of: the parents of the parts above its lift, from its leaf upward. Counts up to 4,000,000,000 leave room for one more from each part.
 fn mark(parents: &[u32], leaf: u32, lift: u32, counts: &mut [u32; 512])
     requires { (q : ℕ) → word counts.old q ≤ 4000000000 }
     ensures { Marked parents.now lift leaf counts.old counts.new }
@@ -74,7 +74,7 @@ fn mark(parents: &[u32], leaf: u32, lift: u32, counts: &mut [u32; 512])
     }
 }
 
-// Counts every vertex for each part that it is a border of.
+// Counts every vertex for each part that it is a border of. It starts from counts of vertices, which 16 bits hold.
 fn count_all(
     parents: &[u32],
     leaves: &[u32],
@@ -109,14 +109,12 @@ pub fn measure(parents: &[u32], leaves: &[u32], body: &[u8], vertices: u32, road
     Measures { lifts, sizes }
 }
 
-impl Measures {
-    // None of the parts has more than 128 rows.
-    pub fn fit(&self, parts: u32) -> bool
-        requires { parts ≤ most_parts }
-        ensures { result ≡ all (few_at self.now.sizes) (up_to parts) }
-    {
-        self.sizes[..parts as usize]
-            .iter()
-            .all(|size| *size <= Part::MOST_BORDERS)
-    }
+// None of the parts has more than 128 rows. Of `Measures` only the sizes are looked at, so only these are asked for.
+pub fn sizes_fit(sizes: &[u32; 512], parts: u32) -> bool
+    requires { parts ≤ most_parts }
+    ensures { result ≡ all (few_at sizes.now) (up_to parts) }
+{
+    sizes[..parts as usize]
+        .iter()
+        .all(|size| *size <= Part::MOST_BORDERS)
 }

@@ -12,7 +12,7 @@ pub fn rest(bytes: &[u8], at: usize) -> &[u8]
     &bytes[at.min(bytes.len())..]
 }
 
-// The number of 2 bytes at `at`.
+// The number of 2 bytes at `at`. Beside `number4`: std's functions belong to two types, and each body is two lines.
 pub fn number2(bytes: &[u8], at: usize) -> u32
     ensures { (result ≡ field bytes.now at 2) × (result < 65536) }
 {
@@ -31,7 +31,7 @@ pub fn number4(bytes: &[u8], at: usize) -> u32
     number2(rest, 0) + 65536 * number2(rest, 2)
 }
 
-// The record at `at` has this kind and this length, and is not cut.
+// The record at `at` has this kind and this length, and is not cut. The kind is a number, as in the definitions: records of a map and of the desk have kinds of their own.
 #[tactic(auto, unfolding(maps::specs::Bytes::is_record))]
 pub fn is_record(bytes: &[u8], at: u32, kind: u32, len: u32) -> bool
     ensures { result ≡ is_record bytes.now at kind len }
@@ -50,7 +50,7 @@ pub fn number_at(body: &[u8], i: u32) -> u32
     number2(body, 2 * (i as usize))
 }
 
-// The first n numbers of a record's body, as words.
+// The first n numbers of a record's body, as words. By index: a body may be cut, and what it lacks reads as 0.
 pub fn copy_numbers(body: &[u8], n: u32, words: &mut [u32])
     requires { n ≤ length words.old }
     ensures { Copied body.now n words.old words.new }

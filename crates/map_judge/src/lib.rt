@@ -14,11 +14,12 @@ ghost use Rattle.map_judge.specs.Verdict.{said, due, ruled, CountsShown};
 
 use answers::Refusal;
 use counts::Counts;
-use map_borders::measure;
+use map_borders::{measure, sizes_fit};
 use map_bytes::{is_record, number2};
 use map_parts::ShownMap;
 use map_roads::roads_fit;
 
+// The numbers of the need, as document 01 writes its formula: judging knows a memory's size, and not where its records stand.
 const HEAD_WORDS: u32 = 64;
 
 const VANS: u32 = 1024;
@@ -121,7 +122,7 @@ fn judge_rules(shown: &ShownMap) -> Result<Sound, Refusal>
         counts.vertices,
         counts.roads,
     );
-    if !measures.fit(counts.parts) {
+    if !sizes_fit(&measures.sizes, counts.parts) {
         return Err(Refusal::MapParts);
     }
     Ok(Sound {

@@ -22,7 +22,7 @@ pub struct Part {
 }
 
 impl Part {
-    // The parent of the root.
+    // The parent of the root: as a map's bytes have it, and no Option, since any other number is refused there.
     pub const NONE: u32 = 65535;
 
     pub const FEWEST_CHILDREN: u32 = 2;

@@ -10,7 +10,13 @@ use cells::word;
 use counts::Counts;
 use map_bytes::{copy_numbers, rest};
 
-// The counts are within their limits.
+// A record's length and kind, before its body.
+const BEFORE_BODY: usize = 6;
+
+// Record 1, whose body has the counts.
+const RECORD_1: usize = 12;
+
+// The counts are within their limits. Contracts name each field: `ShowsPartsOf` and `Given` are also asked of lists that stand in no such struct.
 #[derive(Drop)]
 pub struct ShownMap<'a> {
     pub counts: Counts,
@@ -32,12 +38,13 @@ impl<'a> ShownMap<'a> {
         ensures parts { ShowsPartsOf (decode map.now (the_counts counts.vertices counts.roads counts.parts)) result.parents result.leaves result.counts.vertices result.counts.parts }
         ensures roads { (decode map.now (the_counts counts.vertices counts.roads counts.parts)).roads ≡ roads_of result.counts.roads result.body.now }
     {
+        let parents_at = RECORD_1 + BEFORE_BODY;
         let mut parents: [u32; 512] = [0; 512];
-        copy_numbers(rest(map, 18), counts.parts, &mut parents);
-        let leaves_at = 24 + 2 * (counts.parts as usize);
+        copy_numbers(rest(map, parents_at), counts.parts, &mut parents);
+        let leaves_at = parents_at + 2 * (counts.parts as usize) + BEFORE_BODY;
         let mut leaves: [u32; 4096] = [0; 4096];
         copy_numbers(rest(map, leaves_at), counts.vertices, &mut leaves);
-        let roads_at = leaves_at + 6 + 2 * (counts.vertices as usize);
+        let roads_at = leaves_at + 2 * (counts.vertices as usize) + BEFORE_BODY;
         Self {
             counts,
             parents,

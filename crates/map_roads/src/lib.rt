@@ -9,6 +9,7 @@ ghost use Rattle.map_roads.specs.Road.{road, road_test};
 
 use map_bytes::{number2, number4};
 
+// Contracts write it as `road from to weight`, a record of the definitions: three clauses of this crate, too few for a model.
 #[derive(Clone, Copy)]
 pub struct Road {
     pub from: u32,

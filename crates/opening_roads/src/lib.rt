@@ -15,6 +15,7 @@ use map_roads::Road;
 use places::road_at;
 use records::put_words;
 
+// Road i, at `at`, in front of the roads into its end. The link is the number and 1, which a word holds.
 fn write_road(body: &[u8], i: u32, at: usize, ins: &mut [u32], mem: &mut [u32])
     requires { i < 4294967295 }
     ensures { (mem.new ≡ sets mem.old at (road_words (road_shown body.now i) (word ins.old (road_shown body.now i).to))) × (ins.new ≡ set ins.old (road_shown body.now i).to (i + 1)) }

@@ -15,14 +15,15 @@ use places::vertex_at;
 use records::put_words;
 use rows::Row;
 
-// The word of a row that has its own vertex and the part further down.
+// The word of a row that has its own vertex and the part further down; `table_words` reads it. Two numbers written in one place: a struct with a conversion either way would be no plainer.
 fn own(v: u32, child: u32) -> u32
     ensures { v < child_in_row → child < child_in_row → result ≡ v + child_in_row * child }
 {
     v.wrapping_add(child.wrapping_mul(RowRecord::CHILD))
 }
 
-// An empty row of v, at the next place of the part; the address is given back.
+// An empty row of v, at the next place of the part; the address is given back. Memory and places are lent apart, here and in `climb`: a struct of two borrows would be no plainer,
+// and of a `Vertex` only the number stays the same on the way up.
 fn write_row(mem: &mut [u32], cursors: &mut [u32], part: u32, v: u32, child: u32, below: u32) -> u32
     ensures { RowWritten mem.old cursors.old part v child below result mem.new cursors.new }
 {

@@ -30,9 +30,9 @@ fn write_head(mem: &mut [u32], used: u32, counts: Counts, start: u32)
         roads,
         parts,
     } = counts;
-    let shown = [HeadRecord::OPENED, used, vertices, roads, parts, start];
-    put_words(mem, 0, shown);
-    clear(mem, shown.len(), HeadRecord::WORDS - shown.len());
+    let words = [HeadRecord::OPENED, used, vertices, roads, parts, start];
+    put_words(mem, 0, words);
+    clear(mem, words.len(), HeadRecord::WORDS - words.len());
 }
 
 // The roads and the vertices, which show the first road into each.

@@ -1,4 +1,5 @@
-// Where the records of vertices, roads and vans stand in a memory whose head has these counts. Any counts are taken.
+// Where the records of vertices, roads and vans stand in a memory whose head has these counts. Any counts are taken. Memory and counts stand apart,
+// here and above: a reading call is lent `&[u32]` and a change `&mut [u32]`, so one view of both would be two types.
 #![tactic(auto)]
 
 ghost use Rattle.std.specs.Prelude.{◌≡◌};
@@ -39,6 +40,7 @@ pub fn vans_from(counts: Counts) -> usize
     roads_from(counts) + RoadRecord::WORDS * counts.roads as usize
 }
 
+// One function for each kind, each with its own start: the contracts' names for the three addresses.
 pub fn vertex_at(counts: Counts, vertex: u32) -> usize
     ensures { result ≡ vertex_address counts vertex }
 {

@@ -90,6 +90,9 @@ module _ (mem : List ℕ) (counts : Counts) (u v : ℕ) (m : Map) (sound : Sound
           let at = inside j h runs.0 in
           omega (arith, parts.before j at.0 (omega arith), end_is j at.1, runs.1))
 
+      pub past_all : counts.roads ≤ road → None ≡ road_found m u v
+      past_all past = none_left (omega (arith, past, upper.few, stand.roads))
+
       pub other_end : road < high → (end_in mem counts road ≡ v → ⊥) → None ≡ road_found m u v
       other_end within differs = none_found none
         where

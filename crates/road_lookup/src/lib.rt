@@ -58,13 +58,11 @@ pub fn road_between(mem: &[u32], counts: Counts, from: u32, to: u32) -> Option<u
     let low = first_road(mem, counts, from);
     let high = first_road(mem, counts, from + 1);
     let road = first_to(mem, counts, low, high, to);
-    if high <= road {
+    // in a forged memory a vertex may show roads past the last one
+    if high <= road || counts.roads <= road {
         return None;
     }
-    if road_end(mem, counts, road) != to {
-        return None;
-    }
-    Some(road)
+    (road_end(mem, counts, road) == to).then_some(road)
 }
 
 // The number of the road from `from` to `to`, or whether only the other way is one. That is looked at only where there is none.

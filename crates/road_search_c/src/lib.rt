@@ -10,7 +10,7 @@ ghost use Rattle.road_search_c.specs.Answer.{Answered};
 use layout::{RoadRecord, VertexRecord};
 use road_search::distances;
 
-// Words that may show roads: those of `n` vertices from `vertices_at` on, and of `count` roads from `roads_at` on, are within the memory.
+// Words that may show roads, known only to lie within the memory; `road_search` has the like for words that do show them. Those of `n` vertices from `vertices_at` on, and of `count` roads from `roads_at` on, are within the memory.
 #[derive(Drop)]
 struct Words<'a> {
     mem: &'a [u32],

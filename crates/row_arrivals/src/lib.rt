@@ -46,7 +46,7 @@ fn offer(mem: &mut [u32], to: usize, seen: Row, d: u32)
     mem[to + RowRecord::DISTANCE] = row.distance;
 }
 
-// It is offered to all rows of a part, with the distances of a line of the table.
+// What a row shows is offered to all rows of a part, with the distances of a line of the table.
 #[tactic(auto, using(crate::proofs::Offers::spread_turn, crate::proofs::Offers::spread_done))]
 fn spread_line(mem: &mut [u32], part: PartRows, line: usize, seen: Row)
     requires within { Within mem.old part }

@@ -54,7 +54,7 @@ fn arrive(mem: &mut [u32], part: PartRows, v: u32) -> bool
     meet_led(mem, &numbers[..n], part, v)
 }
 
-// The same, after it departed.
+// The rows of a part, after v departed from it. Says whether any row may have changed.
 fn depart(mem: &mut [u32], part: PartRows, v: u32) -> bool
     requires { Within mem.old part }
     ensures { (mem.new ≡ changed mem.old part.first part.table part.size v false) × (result ≡ touches mem.old part.first part.table part.size v false) }
@@ -68,7 +68,8 @@ fn depart(mem: &mut [u32], part: PartRows, v: u32) -> bool
     true
 }
 
-// The same, of part p by its record; where its rows or its table would not lie within the memory nothing is done.
+// The rows of part p, by its record, after v arrived or departed; where its rows or its table would not lie within the memory nothing is done. `arrives` is a fact
+// of the fleet, here and in `switch`: the clauses' definitions take it so.
 fn refresh(mem: &mut [u32], p: u32, v: u32, arrives: bool) -> bool
     ensures { (mem.new ≡ refreshed mem.old p v arrives) × (result ≡ touched mem.old p v arrives) }
 {

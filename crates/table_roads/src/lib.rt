@@ -26,7 +26,7 @@ pub fn note_rows(mem: &[u32], p: u32, place: &mut [u32])
     }
 }
 
-// Rows i and j are marked as halts, unless one child d, e holds the vertices of both. Marks are words, since `take_roads` may be lent any: a row whose word is 1 is a halt.
+// Two rows, i and j, are marked as halts, unless one child holds the vertices of both: d and e are their children, 0 for none. Marks are words, since `take_roads` may be lent any: a row whose word is 1 is a halt.
 fn mark(marks: &mut [u32], i: u32, j: u32, d: u32, e: u32)
     ensures halts_marked { HaltsMarked marks.old i j d e marks.new }
     ensures marks_len_unchanged { length marks.new ≡ length marks.old }
@@ -38,7 +38,8 @@ fn mark(marks: &mut [u32], i: u32, j: u32, d: u32, e: u32)
     put(marks, j as usize, 1);
 }
 
-// Road r, where it leads from the vertex of row i of part p to that of another row. The noted place is tested.
+// Road r, where it leads from the vertex of row i of part p to that of another row. The noted place is tested. Memory, places and marks are three lists lent apart, here and below:
+// a struct of three borrows would be no plainer, and docs name `take_roads`.
 fn lower_by_road(mem: &mut [u32], place: &[u32], marks: &mut [u32], p: u32, i: u32, r: u32)
     ensures roads_of { (m : Map) → LaidForTables m mem.old → p < part_count m → i < size_of m p → r < road_count m → Noted m p (size_of m p) place.now → most_borders ≤ length marks.old → RoadsOf m p i r (suc r) mem.old mem.new marks.old marks.new }
     ensures mem_len_unchanged { length mem.new ≡ length mem.old }

@@ -8,7 +8,7 @@ ghost use Rattle.table_rows.specs.Flat.{entry, through, blank, Holds, StartsWith
 
 use far_sums::FAR;
 
-// As many nodes as a part has rows.
+// As many nodes as a part has rows; a table knows no parts, so the number is its own.
 const MOST_NODES: usize = 128;
 
 // The row `best` relaxed by `row`, which stands `x` away. Where that is no way, nothing is gained.

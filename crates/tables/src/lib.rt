@@ -74,7 +74,7 @@ fn enter_row(mem: &mut [u32], p: u32, i: u32)
     }
 }
 
-// So are those of all its rows.
+// The vertices of all rows of part p are tried, each in the table of the child that holds it.
 fn enter_rows(mem: &mut [u32], p: u32)
     ensures entered { (m : Map) → LaidForTables m mem.old → p < part_count m → Inside m 0 mem.old → Entered m p (size_of m p) mem.old mem.new }
     ensures mem_len_unchanged { length mem.new ≡ length mem.old }

@@ -10,7 +10,7 @@ ghost use Rattle.waiting.specs.Waiting.{Picked};
 use far_sums::FAR;
 use std::marker::Model;
 
-// A key with its vertex: the lesser of two has the lesser key.
+// A key with its vertex: the lesser of two has the lesser key. Not `row_words::numbered`, which is of a memory's rows: a search knows none.
 fn keyed(key: u32, v: usize) -> u64
     requires { v < 4096 }
     ensures { result ≡ key * 65536 + v }
@@ -35,7 +35,8 @@ fn lower_node(tree: &mut [u64; 1365], node: usize, new: u64)
     tree[node] = new.min(tree[node]);
 }
 
-// The key of `v` fell to `key`: the nodes above it, from the bottom up.
+// The key of `v` fell to `key`: the nodes above it, from the bottom up. Each level starts after those above it (1 + 4 + 16 + 64 + 256 = 341), and a node has four below it.
+// Written out level by level, as `raise` is: no count and no branch is left where a search spends most of its time, and a table of the levels with a loop is as long.
 fn lower(tree: &mut [u64; 1365], v: usize, key: u32)
     requires { v < 4096 }
 {
@@ -72,7 +73,7 @@ fn raise(keys: &[u32; 4096], tree: &mut [u64; 1365], v: usize)
     tree[0] = raise_node(tree, 1, v / 1024, x);
 }
 
-// Which vertices wait: the key of each. The tree stands first: so no store of a key can be one of its root, which stays in a register.
+// Which vertices wait: the key of each. FAR, the top of the order, and no Option: so the least of keys is found without a test. The tree stands first: so no store of a key can be one of its root, which stays in a register.
 #[derive(Drop)]
 pub struct Waiting {
     tree: [u64; 1365],

@@ -11,15 +11,15 @@ returns-then-not-parts_fit c = λ m shows roads. rules_by m (sym (c.parts_fit.en
 pub returns-then-not-roads_fit : goal.returns-then-not-roads_fit
 returns-then-not-roads_fit c = λ m shows roads. rules_by m (sym (c.parts_fit.ensures m shows) ∙ c.if-not-parts_fit.false) (roads_known m _ _ _ shows.vertex_count roads c.roads_fit.ensures c.if-not-roads_fit.true) refl
 
-pub returns-then-not-fit : goal.returns-then-not-fit
-returns-then-not-fit c = λ m shows roads.
+pub returns-then-not-sizes_fit : goal.returns-then-not-sizes_fit
+returns-then-not-sizes_fit c = λ m shows roads.
     let good_parts = (sym (c.parts_fit.ensures m shows) ∙ c.if-not-parts_fit.false) in
     let good_roads = (roads_known m _ _ _ shows.vertex_count roads c.roads_fit.ensures c.if-not-roads_fit.false) in
     let given = given_of _ _ _ _ (omega arith) (omega arith) shows roads good_parts good_roads in
-    rules_by m good_parts good_roads (borders_known given _ (c.measure-measures.ensures.2 m _ given).1 c.fit.ensures c.if-not-fit.true)
+    rules_by m good_parts good_roads (borders_known given _ (c.measure-measures.ensures.2 m _ given).1 c.sizes_fit.ensures c.if-not-sizes_fit.true)
 
 pub need-requires : goal.need-requires
-need-requires c = (record { vertices = omega arith; roads = omega arith; some = omega arith; parts = omega arith }, each_few _ _ c.fit.ensures c.if-not-fit.false)
+need-requires c = (record { vertices = omega arith; roads = omega arith; some = omega arith; parts = omega arith }, each_few _ _ c.sizes_fit.ensures c.if-not-sizes_fit.false)
 
 pub returns : goal.returns
 returns c = λ m shows roads.
@@ -28,4 +28,4 @@ returns c = λ m shows roads.
     let given = given_of _ _ _ _ (omega arith) (omega arith) shows roads good_parts good_roads in
     let sizes = (c.measure-measures.ensures.2 m _ given).1 in
     sound_by m _ _ _ _ _ shows roads sizes c.need.ensures
-    ∙ rules_by m good_parts good_roads (borders_known given _ sizes c.fit.ensures c.if-not-fit.false)
+    ∙ rules_by m good_parts good_roads (borders_known given _ sizes c.sizes_fit.ensures c.if-not-sizes_fit.false)
