@@ -8,18 +8,19 @@ ghost use Rattle.best_list.specs.Best.{Best, listing, entries, limit_of, offered
 use std::marker::Model;
 
 // A van offered: its distance and its number. Offers stand in the order in which they are listed.
-#[derive(Clone, Copy, PartialEq, Eq, PartialOrd, Ord)]
+#[derive(Clone, Copy, PartialEq, Eq)]
 pub struct Offer {
     pub far: u32,
     pub van: u32,
 }
 
 impl Offer {
-    // This offer is listed before another.
+    // This offer is listed before another. The order is written out, since a derived one is compiled without a jump, and the passes over a list then take longer.
+    #[tactic(auto, unfolding(fleet::specs::Question::listed_before))]
     pub fn comes_before(self, other: Offer) -> bool
         ensures { (stampOf : ℕ → ℕ) → result ≡ listed_before (listing stampOf self) (listing stampOf other) }
     {
-        self < other
+        self.far < other.far || (self.far == other.far && self.van < other.van)
     }
 }
 
