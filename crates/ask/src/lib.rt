@@ -6,10 +6,9 @@ ghost use Rattle.answers.specs.Answered.{answered};
 ghost use Rattle.fleet.specs.Question.{question_in_range};
 ghost use Rattle.calls.specs.Outcome.{Asked};
 
-use answers::Reply;
-use cells::{wide, word};
-use counts::is_within;
-use head::opened_head;
+use answers::{Refusal, Reply};
+use cells::word;
+use head::used_words;
 use layout::HeadRecord;
 use question::{nearest_vans, write_list};
 
@@ -19,30 +18,24 @@ pub const MOST_ASKED: u32 = 32;
 fn in_range(vertices: u32, vertex: u32, k: u32) -> bool
     ensures { result ≡ question_in_range vertices vertex k }
 {
-    if vertices <= vertex {
-        return false;
-    }
-    is_within(1, MOST_ASKED, k)
+    vertex < vertices && (1..=MOST_ASKED).contains(&k)
 }
 
 // The k nearest free vans to a vertex, written over the first words of the answer: van, distance and stamp of each.
 pub fn question(mem: &[u32], vertex: u32, k: u32, answer: &mut [u32]) -> Reply
     ensures { Asked mem.now vertex k answer.old (answered result) answer.new }
 {
-    if !opened_head(mem) {
-        return Reply::NotOpened;
-    }
+    let used = used_words(mem)?;
     if !in_range(word(mem, HeadRecord::VERTICES), vertex, k) {
-        return Reply::OutOfRange;
+        return Err(Refusal::OutOfRange);
     }
-    let most = wide(k);
+    let most = k as usize;
     if answer.len() < 3 * most {
-        return Reply::TooFewWords;
+        return Err(Refusal::TooFewWords);
     }
-    let used = wide(word(mem, HeadRecord::USED));
     let inside = &mem[..used];
     let best = nearest_vans(inside, vertex, most);
-    let len = best.len;
+    let len = best.offers().len();
     write_list(inside, best, answer);
-    Reply::Accepted(len as u32)
+    Ok(len as u32)
 }

@@ -2,7 +2,7 @@
 -- Assumes nothing.
 use mathlib.Core.Path.{◌≡◌, refl, sym, ap, ◌∙◌, subst, subst⁻¹}
 use mathlib.Core.Logic.{inl, inr, ⊎_elim}
-use mathlib.Core.Bool.{Bool, true, false, true≢false}
+use mathlib.Core.Bool.{true}
 use mathlib.Core.List.{List, Memᴰ}
 use Prim.Native.Nat.{ℕ, suc, ◌+◌, ◌*◌, ◌≤◌, ◌<◌}
 use native.Mathlib.Nat.{eq-or-lt_of_le}
@@ -31,7 +31,7 @@ use Rattle.inner_walks.proofs.Up.{closed_least}
 use Rattle.table_rows.specs.Flat.{blank, Becomes, Blanked, Tried}
 use Rattle.assembly.specs.Laid.{LaidForTables, table_entry, OutsideTables}
 use Rattle.assembly.specs.Lower.{Honest, Lower, Inside}
-use Rattle.assembly.specs.Steps.{RowIn, place_below, Agreed, Noted, NotTogether, Roads, Tight, AtHome, Closed, Marked, HaltTried, Risen}
+use Rattle.assembly.specs.Steps.{RowIn, place_below, Agreed, Noted, NotTogether, Roads, Tight, AtHome, Closed, HaltTried, Risen}
 use Rattle.assembly.proofs.Places.{table_from, tables_apart, table_to, row_is, row_real, laid_kept}
 use Rattle.assembly.proofs.Lowering.{lower_then}
 use Rattle.assembly.proofs.Trying.{tried_lower, tried_tight, tried_keeps}
@@ -61,20 +61,13 @@ module _ (m : Map) (p : ℕ) where
 
 -- ---- every row vertex tried
 
-is_marked : (marked : List Bool) (k : ℕ) → Dec (Marked marked k)
-is_marked marked k = by (get_or marked k false)
-  where
-    by : (b : Bool) → Dec (b ≡ true)
-    by true = yes refl
-    by false = no (λ e. true≢false (sym e))
-
-module _ (start : List ℕ) (marked : List Bool) (p : ℕ) where
+module _ (start marked : List ℕ) (p : ℕ) where
   abbrev pub ClosedTo : ℕ → List ℕ → Type 0
   ClosedTo k mem = (m : Map) → LaidForTables m start → p < part_count m → AtHome m p start → Closed m p k marked start mem
 
   pub closed_turn : {size table : ℕ} (before after : List ℕ) (k : ℕ) → k < size → size ≡ part_word start p size_in_part → table ≡ part_word start p table_in_part →
       ClosedTo k before → HaltTried table size k marked before after → ClosedTo (k + 1) after
-  closed_turn {size} {table} before after k hk size_is table_is done T m L hp home = elim (is_marked marked k) [
+  closed_turn {size} {table} before after k hk size_is table_is done T m L hp home = elim (ℕ_discrete (word marked k) 1) [
     | yes halt ↦
         let T' : Tried (table_of m p) (size_of m p) k before after = rw (size_is ∙ (L.part p hp).size, table_is ∙ (L.part p hp).table) at (T.tried halt) in
         record {
@@ -92,7 +85,7 @@ module _ (start : List ℕ) (marked : List Bool) (p : ℕ) where
       tight = λ l hl marks. elim (eq-or-lt_of_le hl) [
         | inl e ↦
             let same : l ≡ k = omega arith in
-            absurd (none (subst (λ (x : ℕ). Marked marked x) same marks))
+            absurd (none (subst (λ (x : ℕ). word marked x ≡ 1) same marks))
         | inr less ↦ A.tight l (omega arith) marks
       ];
     })
@@ -110,6 +103,14 @@ module _ (start : List ℕ) (marked : List Bool) (p : ℕ) where
   pub closed_done : {size : ℕ} (mem : List ℕ) (k : ℕ) → k ≤ size → size ≤ k → size ≡ part_word start p size_in_part → ClosedTo k mem →
       (m : Map) → LaidForTables m start → p < part_count m → AtHome m p start → Closed m p (size_of m p) marked start mem
   closed_done mem k within all size_is done m L hp home = subst (λ (n : ℕ). Closed m p n marked start mem) (omega (arith, (L.part p hp).size)) (done m L hp home)
+
+-- one row, as its mark is read
+module _ (marked : List ℕ) {k a w : ℕ} (table size : ℕ) (at : a ≡ k) (reads : w ≡ get_or marked a 0) where
+  pub halt_tried : {before after : List ℕ} → w ≡ 1 → Tried table size k before after → HaltTried table size k marked before after
+  halt_tried is T = record { sized = T.sized; tried = λ _. T; passed = λ none. absurd (none (ap (λ (x : ℕ). get_or marked x 0) (sym at) ∙ sym reads ∙ is)) }
+
+  pub halt_passed : (w ≡ 1 → ⊥) → (mem : List ℕ) → HaltTried table size k marked mem mem
+  halt_passed other mem = record { sized = refl; tried = λ is. absurd (other (reads ∙ ap (λ (x : ℕ). get_or marked x 0) at ∙ is)); passed = λ _. refl }
 
 -- ---- a table blanked
 
@@ -148,14 +149,14 @@ module _ (m : Map) (before after : List ℕ) (L : LaidForTables m before) (p : �
 -- ---- the whole step
 
 module _ (m : Map) (mem one two three four : List ℕ) (L : LaidForTables m mem) (p : ℕ) (hp : p < part_count m) (I : Inside m (suc p) mem)
-    (B : Blanked (table_of m p) (size_of m p) mem one) (marks marked : List Bool) (R : Roads m p (size_of m p) one two marks marked) (A : Agreed m p p (size_of m p) two three) (C : Closed m p (size_of m p) marked three four) where
+    (B : Blanked (table_of m p) (size_of m p) mem one) (marks marked : List ℕ) (R : Roads m p (size_of m p) one two marks marked) (A : Agreed m p p (size_of m p) two three) (C : Closed m p (size_of m p) marked three four) where
   later : Lower m p one four
   later = lower_then R.lower (lower_then A.lower C.lower)
 
   -- a road between two row vertices
   road_taken : (r : Road) → Memᴰ r m.roads → Memᴰ r.from (row_vertices m p) → Memᴰ r.to (row_vertices m p)
       → (table_entry m two p (row_of_vertex m p r.from) (row_of_vertex m p r.to) ≤ r.weight)
-      × (NotTogether m p (row_of_vertex m p r.from) (row_of_vertex m p r.to) → (Marked marked (row_of_vertex m p r.from)) × (Marked marked (row_of_vertex m p r.to)))
+      × (NotTogether m p (row_of_vertex m p r.from) (row_of_vertex m p r.to) → (word marked (row_of_vertex m p r.from) ≡ 1) × (word marked (row_of_vertex m p r.to) ≡ 1))
   road_taken r h hf ht =
       let n = numbered no_road m.roads r h in
       let f = vertex_row m p r.from hf in
@@ -227,7 +228,7 @@ module _ (m : Map) (mem one two three four : List ℕ) (L : LaidForTables m mem)
   }
 
 -- as the code has it
-pub risen_step : (mem one two three four : List ℕ) (p : ℕ) {size table wide : ℕ} {place : List ℕ} (marks marked : List Bool) → most_borders ≤ length marks → size ≡ part_word mem p size_in_part → table ≡ part_word mem p table_in_part →
+pub risen_step : (mem one two three four : List ℕ) (p : ℕ) {size table wide : ℕ} {place : List ℕ} (marks marked : List ℕ) → most_borders ≤ length marks → size ≡ part_word mem p size_in_part → table ≡ part_word mem p table_in_part →
     Blanked table size mem one → ((m : Map) → LaidForTables m one → p < part_count m → most_vertices ≤ wide → Noted m p (size_of m p) place) →
     ((m : Map) → LaidForTables m one → p < part_count m → Noted m p (size_of m p) place → most_borders ≤ length marks → Roads m p (size_of m p) one two marks marked) →
     ((m : Map) (low : ℕ) → LaidForTables m two → low ≤ p → p < part_count m → Agreed m low p (size_of m p) two three) →

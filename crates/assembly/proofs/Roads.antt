@@ -2,7 +2,6 @@
 -- Assumes nothing.
 use mathlib.Core.Path.{◌≡◌, sym, ap, ◌∙◌, subst, subst⁻¹}
 use mathlib.Core.Logic.{◌⊎◌, inl, inr}
-use mathlib.Core.Bool.{Bool}
 use mathlib.Core.List.{List}
 use Prim.Native.Nat.{ℕ, suc, ◌+◌, ◌*◌, ◌≤◌, ◌<◌}
 use native.Mathlib.Nat.{eq-or-lt_of_le}
@@ -31,7 +30,7 @@ use Rattle.counts.specs.declared.Counts.{Counts}
 use Rattle.places.specs.Place.{counts_in, vertex_address, road_address}
 use Rattle.road_lookup.specs.Lookup.{first_road_in}
 use Rattle.assembly.specs.Laid.{LaidForTables}
-use Rattle.assembly.specs.Steps.{RowIn, Noted, NotTogether, Marked, HaltsMarked, RoadsFor, RoadsOf, Roads}
+use Rattle.assembly.specs.Steps.{RowIn, Noted, NotTogether, HaltsMarked, RoadsFor, RoadsOf, Roads}
 use Rattle.assembly.proofs.Places.{row_real, laid_kept}
 use Rattle.assembly.proofs.Lowering.{lower_none, lower_then, lower_one, lower_one_at}
 use Rattle.assembly.proofs.Below.{part_below_says}
@@ -90,10 +89,10 @@ first_road_is mem v counts_is shown m L hv = shown ∙ ap (λ (c : Counts). firs
 -- ---- nothing done, and one thing after the other
 
 module _ {m : Map} {p : ℕ} {Of : ℕ → ℕ → Type 0} where
-  pub roads_none : {mem : List ℕ} {marks : List Bool} → ((r i j : ℕ) → Of r i → j < size_of m p → (road_at m r).from ≡ row_vertex m p i → (road_at m r).to ≡ row_vertex m p j → ⊥) → RoadsFor m p Of mem mem marks marks
+  pub roads_none : {mem marks : List ℕ} → ((r i j : ℕ) → Of r i → j < size_of m p → (road_at m r).from ≡ row_vertex m p i → (road_at m r).to ≡ row_vertex m p j → ⊥) → RoadsFor m p Of mem mem marks marks
   roads_none {mem} never = record { lower = lower_none m p mem; kept = λ k h. h; road = λ r i j of _ _ hj starts ends. absurd (never r i j of hj starts ends) }
 
-  pub roads_then : {First Then : ℕ → ℕ → Type 0} {start before after : List ℕ} {marks marked marked' : List Bool} → p < part_count m → ((r i : ℕ) → Of r i → r < road_count m → First r i ⊎ Then r i) →
+  pub roads_then : {First Then : ℕ → ℕ → Type 0} {start before after marks marked marked' : List ℕ} → p < part_count m → ((r i : ℕ) → Of r i → r < road_count m → First r i ⊎ Then r i) →
       RoadsFor m p First start before marks marked → RoadsFor m p Then before after marked marked' → RoadsFor m p Of start after marks marked'
   roads_then hp which A B = record {
     lower = lower_then A.lower B.lower;
@@ -108,7 +107,7 @@ module _ {m : Map} {p : ℕ} {Of : ℕ → ℕ → Type 0} where
 
 -- ---- one road
 
-module _ (mem place : List ℕ) (marks : List Bool) (m : Map) (L : LaidForTables m mem) (p i r : ℕ) (hp : p < part_count m) (hi : i < size_of m p) (hr : r < road_count m) (N : Noted m p (size_of m p) place) where
+module _ (mem place marks : List ℕ) (m : Map) (L : LaidForTables m mem) (p i r : ℕ) (hp : p < part_count m) (hi : i < size_of m p) (hr : r < road_count m) (N : Noted m p (size_of m p) place) where
   -- it leads elsewhere: nothing is to be done
   road_none : ((j : ℕ) → j < size_of m p → (road_at m r).from ≡ row_vertex m p i → (road_at m r).to ≡ row_vertex m p j → ⊥) → RoadsOf m p i r (suc r) mem mem marks marks
   road_none never = roads_none (λ s k j of hj starts ends.
@@ -133,7 +132,7 @@ module _ (mem place : List ℕ) (marks : List Bool) (m : Map) (L : LaidForTables
   pub road_taken : {from to weight u v size table line j column : ℕ} {after : List ℕ} → from ≡ (road_at m r).from → to ≡ (road_at m r).to → weight ≡ (road_at m r).weight →
       u ≡ row_vertex m p i → from ≡ u → size ≡ part_word mem p size_in_part → j < size → (j < size_of m p → v ≡ row_vertex m p j) → to ≡ v →
       table ≡ part_word mem p table_in_part → line ≡ table + size * i → column ≡ j → after ≡ lowered mem (line + column) weight →
-      (marked : List Bool) → ((k : ℕ) → Marked marks k → Marked marked k) → (j < size_of m p → NotTogether m p i j → (Marked marked i) × (Marked marked j)) →
+      (marked : List ℕ) → ((k : ℕ) → word marks k ≡ 1 → word marked k ≡ 1) → (j < size_of m p → NotTogether m p i j → (word marked i ≡ 1) × (word marked j ≡ 1)) →
       RoadsOf m p i r (suc r) mem after marks marked
   road_taken {weight = weight} {size = size} {line = line} {j = j} {column = column} from_is to_is weight_is u-is starts size_is within v_is ends table_is line_is column-is after_is marked kept both =
       rw (after_is, there) (record {
@@ -171,11 +170,11 @@ module _ (mem place : List ℕ) (marks : List Bool) (m : Map) (L : LaidForTables
 
 -- ---- one road, as the words of the memory show it
 
-abbrev pub ByRoad : List ℕ → List ℕ → ℕ → ℕ → ℕ → List ℕ → List Bool → List Bool → Type 0
+abbrev pub ByRoad : List ℕ → List ℕ → ℕ → ℕ → ℕ → List ℕ → List ℕ → List ℕ → Type 0
 ByRoad mem place p i r after marks marked =
     (m : Map) → LaidForTables m mem → p < part_count m → i < size_of m p → r < road_count m → Noted m p (size_of m p) place → most_borders ≤ length marks → RoadsOf m p i r (suc r) mem after marks marked
 
-module _ (mem place : List ℕ) (marks : List Bool) (p i r : ℕ) {counts : Counts} {road size first table from to weight at j mark u : ℕ} (counts_is : counts ≡ counts_in mem) (road_is : road ≡ road_address counts r)
+module _ (mem place marks : List ℕ) (p i r : ℕ) {counts : Counts} {road size first table from to weight at j mark u : ℕ} (counts_is : counts ≡ counts_in mem) (road_is : road ≡ road_address counts r)
     (size_is : size ≡ part_word mem p size_in_part) (first_is : first ≡ part_word mem p rows_in_part) (table_is : table ≡ part_word mem p table_in_part)
     (from_is : from ≡ word mem road) (to_is : to ≡ word mem (road + to_in_road)) (weight_is : weight ≡ word mem (road + weight_in_road))
     (at_is : at ≡ to) (j-is : j ≡ get_or place at 0) (mark_is : mark ≡ row_word mem first i own_in_row) (reads : (v d : ℕ) → v < child_in_row → mark ≡ v + child_in_row * d → u ≡ v) where
@@ -202,7 +201,7 @@ module _ (mem place : List ℕ) (marks : List Bool) (p i r : ℕ) {counts : Coun
     by_other other m L hp hi hr N _ =
         road_to_another mem place marks m L p i r hp hi hr N (ends_at m L hr) at_is j-is (λ hj. shown_vertex m mem L p j hp hj first_is mark'-is reads') other
 
-    pub by_own : {line column d e : ℕ} {after : List ℕ} {marked : List Bool} → from ≡ u → j < size → to ≡ v → line ≡ table + size * i → column ≡ j → after ≡ lowered mem (line + column) weight →
+    pub by_own : {line column d e : ℕ} {after marked : List ℕ} → from ≡ u → j < size → to ≡ v → line ≡ table + size * i → column ≡ j → after ≡ lowered mem (line + column) weight →
         ((w x : ℕ) → w < child_in_row → mark ≡ w + child_in_row * x → d ≡ x) → ((w x : ℕ) → w < child_in_row → mark' ≡ w + child_in_row * x → e ≡ x) → HaltsMarked marks i j d e marked → ByRoad mem place p i r after marks marked
     by_own {d = d} {e = e} {marked = marked} starts within ends line_is column-is after_is part-reads part-reads' M m L hp hi hr N wide =
         road_taken mem place marks m L p i r hp hi hr N (starts_at m L hr) (ends_at m L hr) (weighs m L hr) (shown_vertex m mem L p i hp hi first_is mark_is reads) starts size_is within
@@ -225,11 +224,11 @@ module _ (mem place : List ℕ) (marks : List Bool) (p i r : ℕ) {counts : Coun
 
 -- ---- all roads from one vertex
 
-module _ (start place : List ℕ) (marks : List Bool) (p i from : ℕ) where
-  abbrev pub RoadsTo : ℕ → List ℕ → List Bool → Type 0
+module _ (start place marks : List ℕ) (p i from : ℕ) where
+  abbrev pub RoadsTo : ℕ → List ℕ → List ℕ → Type 0
   RoadsTo r mem marked = (m : Map) → LaidForTables m start → p < part_count m → i < size_of m p → Noted m p (size_of m p) place → most_borders ≤ length marks → RoadsOf m p i from r start mem marks marked
 
-  pub roads_turn : {first mark v end : ℕ} (before after : List ℕ) (marked marked' : List Bool) (r : ℕ) → length marked ≡ length marks → r < end →
+  pub roads_turn : {first mark v end : ℕ} (before after marked marked' : List ℕ) (r : ℕ) → length marked ≡ length marks → r < end →
       first ≡ part_word start p rows_in_part → mark ≡ row_word start first i own_in_row → ((u d : ℕ) → u < child_in_row → mark ≡ u + child_in_row * d → v ≡ u) →
       ((m : Map) → LaidForTables m start → v + 1 ≤ m.vertices → end ≡ first_road_from m (v + 1)) → RoadsTo r before marked →
       ByRoad before place p i r after marked marked' → RoadsTo (r + 1) after marked'
@@ -240,7 +239,7 @@ module _ (start place : List ℕ) (marks : List Bool) (p i from : ℕ) where
       let B = one m (laid_kept m start before A.lower.sized A.lower.outside L) hp hi within N (omega (arith, wide)) in
       roads_then hp (λ s k of _. elim (eq-or-lt_of_le of.2) [ inl now ↦ inr (of.0, omega arith, omega arith) | inr less ↦ inl (of.0, of.1, omega arith) ]) A B
 
-  pub roads_done : {first mark v end : ℕ} (mem : List ℕ) (marked : List Bool) (r : ℕ) → end ≤ r → first ≡ part_word start p rows_in_part → mark ≡ row_word start first i own_in_row →
+  pub roads_done : {first mark v end : ℕ} (mem marked : List ℕ) (r : ℕ) → end ≤ r → first ≡ part_word start p rows_in_part → mark ≡ row_word start first i own_in_row →
       ((u d : ℕ) → u < child_in_row → mark ≡ u + child_in_row * d → v ≡ u) → ((m : Map) → LaidForTables m start → v ≤ m.vertices → from ≡ first_road_from m v) →
       ((m : Map) → LaidForTables m start → v + 1 ≤ m.vertices → end ≡ first_road_from m (v + 1)) → RoadsTo r mem marked →
       (m : Map) → LaidForTables m start → p < part_count m → i < size_of m p → Noted m p (size_of m p) place → most_borders ≤ length marks → RoadsOf m p i 0 (road_count m) start mem marks marked
@@ -267,11 +266,11 @@ module _ (start place : List ℕ) (marks : List Bool) (p i from : ℕ) where
 
 -- ---- row after row
 
-module _ (start place : List ℕ) (marks : List Bool) (p : ℕ) where
-  abbrev pub RowsTaken : ℕ → List ℕ → List Bool → Type 0
+module _ (start place marks : List ℕ) (p : ℕ) where
+  abbrev pub RowsTaken : ℕ → List ℕ → List ℕ → Type 0
   RowsTaken i mem marked = (m : Map) → LaidForTables m start → p < part_count m → Noted m p (size_of m p) place → most_borders ≤ length marks → Roads m p i start mem marks marked
 
-  pub taken_turn : {size : ℕ} (before after : List ℕ) (marked marked' : List Bool) (i : ℕ) → length marked ≡ length marks → i < size → size ≡ part_word start p size_in_part → RowsTaken i before marked →
+  pub taken_turn : {size : ℕ} (before after marked marked' : List ℕ) (i : ℕ) → length marked ≡ length marks → i < size → size ≡ part_word start p size_in_part → RowsTaken i before marked →
       ((m : Map) → LaidForTables m before → p < part_count m → i < size_of m p → Noted m p (size_of m p) place → most_borders ≤ length marked → RoadsOf m p i 0 (road_count m) before after marked marked') → RowsTaken (i + 1) after marked'
   taken_turn before after marked marked' i long hi size_is done row m L hp N wide =
       let A = done m L hp N wide in
@@ -279,6 +278,6 @@ module _ (start place : List ℕ) (marks : List Bool) (p : ℕ) where
       let B = row m (laid_kept m start before A.lower.sized A.lower.outside L) hp fits N (omega (arith, wide)) in
       roads_then hp (λ r k hk hr. elim (eq-or-lt_of_le hk) [ inl now ↦ inr (omega arith, omega arith, hr) | inr less ↦ inl (omega arith) ]) A B
 
-  pub taken_done : {size : ℕ} (mem : List ℕ) (marked : List Bool) (i : ℕ) → i ≤ size → size ≤ i → size ≡ part_word start p size_in_part → RowsTaken i mem marked →
+  pub taken_done : {size : ℕ} (mem marked : List ℕ) (i : ℕ) → i ≤ size → size ≤ i → size ≡ part_word start p size_in_part → RowsTaken i mem marked →
       (m : Map) → LaidForTables m start → p < part_count m → Noted m p (size_of m p) place → most_borders ≤ length marks → Roads m p (size_of m p) start mem marks marked
   taken_done mem marked i within all size_is done m L hp N wide = subst (λ (n : ℕ). Roads m p n start mem marks marked) (omega (arith, (L.part p hp).size)) (done m L hp N wide)

@@ -1,5 +1,5 @@
 -- What each step of filling the tables leaves.
-use Rattle.std.specs.Prelude.{◌≡◌, ◌⊎◌, Bool, true, false, ℕ, ◌+◌, ◌≤◌, ◌<◌, length, get_or}
+use Rattle.std.specs.Prelude.{◌≡◌, ◌⊎◌, true, ℕ, ◌+◌, ◌≤◌, ◌<◌, length}
 use mathlib.Core.List.{List, Memᴰ}
 use Rattle.words.specs.Lists.{word, place_in}
 use Rattle.roads.specs.Map.{Map, part_count, road_count, road_at}
@@ -51,29 +51,25 @@ pub record Noted (m : Map) (p n : ℕ) (place : List ℕ) : Type 0 where
 abbrev pub NotTogether : Map → ℕ → ℕ → ℕ → Type 0
 NotTogether m p i j = (c : ℕ) → RowIn m p i c → RowIn m p j c → ⊥
 
--- row k is marked as a halt
-abbrev pub Marked : List Bool → ℕ → Type 0
-Marked marks k = get_or marks k false ≡ true
-
 -- rows i and j have been marked, unless d and e are one child
-pub record HaltsMarked (marks : List Bool) (i j d e : ℕ) (marked : List Bool) : Type 0 where
-  pub kept : (k : ℕ) → Marked marks k → Marked marked k
-  pub both : i < length marks → j < length marks → (d ≡ e → d ≡ 0) → (Marked marked i) × (Marked marked j)
+pub record HaltsMarked (marks : List ℕ) (i j d e : ℕ) (marked : List ℕ) : Type 0 where
+  pub kept : (k : ℕ) → word marks k ≡ 1 → word marked k ≡ 1
+  pub both : i < length marks → j < length marks → (d ≡ e → d ≡ 0) → (word marked i ≡ 1) × (word marked j ≡ 1)
 
 -- The roads r with `Of r i`, from the vertex of row i to another row vertex, have lowered their words; and the ends of those that no child holds
 -- are marked as halts.
-pub record RoadsFor (m : Map) (p : ℕ) (Of : ℕ → ℕ → Type 0) (before after : List ℕ) (marks marked : List Bool) : Type 0 where
+pub record RoadsFor (m : Map) (p : ℕ) (Of : ℕ → ℕ → Type 0) (before after marks marked : List ℕ) : Type 0 where
   pub lower : Lower m p before after
-  pub kept : (k : ℕ) → Marked marks k → Marked marked k
+  pub kept : (k : ℕ) → word marks k ≡ 1 → word marked k ≡ 1
   pub road : (r i j : ℕ) → Of r i → r < road_count m → i < size_of m p → j < size_of m p → (road_at m r).from ≡ row_vertex m p i → (road_at m r).to ≡ row_vertex m p j →
-      (table_entry m after p i j ≤ (road_at m r).weight) × (NotTogether m p i j → (Marked marked i) × (Marked marked j))
+      (table_entry m after p i j ≤ (road_at m r).weight) × (NotTogether m p i j → (word marked i ≡ 1) × (word marked j ≡ 1))
 
 -- the roads with a number of at least `from` and below `to`, from the vertex of row i
-abbrev pub RoadsOf : Map → (p i from to : ℕ) → (before after : List ℕ) → (marks marked : List Bool) → Type 0
+abbrev pub RoadsOf : Map → (p i from to : ℕ) → (before after marks marked : List ℕ) → Type 0
 RoadsOf m p i from to = RoadsFor m p (λ r k. (k ≡ i) × (from ≤ r) × (r < to))
 
 -- all roads from the vertices of the first n rows
-abbrev pub Roads : Map → (p n : ℕ) → (before after : List ℕ) → (marks marked : List Bool) → Type 0
+abbrev pub Roads : Map → (p n : ℕ) → (before after marks marked : List ℕ) → Type 0
 Roads m p n = RoadsFor m p (λ r i. i < n)
 
 -- ---- nodes tried
@@ -87,15 +83,15 @@ abbrev pub AtHome : Map → ℕ → List ℕ → Type 0
 AtHome m q mem = (i : ℕ) → i < size_of m q → table_entry m mem q i i ≤ 0
 
 -- of the first n rows of p those marked as halts have been tried in the table of p
-pub record Closed (m : Map) (p n : ℕ) (marked : List Bool) (before after : List ℕ) : Type 0 where
+pub record Closed (m : Map) (p n : ℕ) (marked before after : List ℕ) : Type 0 where
   pub lower : Lower m p before after
-  pub tight : (k : ℕ) → k < n → Marked marked k → Tight m p k after
+  pub tight : (k : ℕ) → k < n → word marked k ≡ 1 → Tight m p k after
 
 -- row k has been tried, if it is marked
-pub record HaltTried (table size k : ℕ) (marked : List Bool) (before after : List ℕ) : Type 0 where
+pub record HaltTried (table size k : ℕ) (marked before after : List ℕ) : Type 0 where
   pub sized : length after ≡ length before
-  pub tried : Marked marked k → Tried table size k before after
-  pub passed : (Marked marked k → ⊥) → after ≡ before
+  pub tried : word marked k ≡ 1 → Tried table size k before after
+  pub passed : (word marked k ≡ 1 → ⊥) → after ≡ before
 
 -- row i of p has been tried in the table of the child that holds it, and what was tried there before still is
 pub record EnteredRow (m : Map) (p i : ℕ) (before after : List ℕ) : Type 0 where

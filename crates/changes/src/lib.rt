@@ -25,6 +25,7 @@ use row_refresh::switch;
 use van_lists::{VanWords, put_in, take_out, van_in, write_van};
 
 // Where `others`, the first of the other vans in the list of the vertex, is none, the vertex becomes active (`arrives`) or inactive.
+// `arrives` is a value of the rows, passed on, and chooses nothing here.
 #[tactic(auto, unfolding(crate::specs::Made::switched_alone))]
 fn switch_alone(mem: &mut [u32], vertex: u32, others: u32, arrives: bool)
     ensures { mem.new ≡ switched_alone mem.old vertex others arrives }

@@ -58,7 +58,7 @@ fn is_asked(near: u32, shown: u32, all: bool) -> bool
 }
 
 // A part's rows get their distances, and its children the keys that these give: what is not listed has none to give. Where all rows are asked for, those that had
-// a distance give none. A part that does not lie within the memory changes nothing.
+// a distance give none. A part that does not lie within the memory changes nothing. `all` is no closure: both halves below go by it, as the definitions do.
 pub fn open_up(
     mem: &[u32],
     part: u32,

@@ -1,7 +1,7 @@
 // The roads between the row vertices of a part: each lowers one word of the part's table, and marks its ends where it leads out of a child.
 #![tactic(auto)]
 
-ghost use Rattle.std.specs.Prelude.{◌≡◌, true, suc, ◌≤◌, ◌<◌, length, set};
+ghost use Rattle.std.specs.Prelude.{◌≡◌, suc, ◌≤◌, ◌<◌, length};
 ghost use Rattle.words.specs.Limits.{most_vertices, most_borders};
 ghost use Rattle.roads.specs.Map.{Map, part_count, road_count};
 ghost use Rattle.parts.specs.Size.{size_of};
@@ -26,30 +26,20 @@ pub fn note_rows(mem: &[u32], p: u32, place: &mut [u32])
     }
 }
 
-// Row i is marked as a halt.
-fn mark(marks: &mut [bool], i: u32)
-    ensures { marks.new ≡ set marks.old i true }
-{
-    let i = wide(i);
-    if i < marks.len() {
-        marks[i] = true;
-    }
-}
-
-// Rows i and j are, unless one child d, e holds the vertices of both.
-fn mark_ends(marks: &mut [bool], i: u32, j: u32, d: u32, e: u32)
+// Rows i and j are marked as halts, unless one child d, e holds the vertices of both. Marks are words, since `take_roads` may be lent any: a row whose word is 1 is a halt.
+fn mark(marks: &mut [u32], i: u32, j: u32, d: u32, e: u32)
     ensures halts_marked { HaltsMarked marks.old i j d e marks.new }
     ensures marks_len_unchanged { length marks.new ≡ length marks.old }
 {
     if d == e && d != 0 {
         return;
     }
-    mark(marks, i);
-    mark(marks, j);
+    put(marks, wide(i), 1);
+    put(marks, wide(j), 1);
 }
 
 // Road r, where it leads from the vertex of row i of part p to that of another row. The noted place is tested.
-fn lower_by_road(mem: &mut [u32], place: &[u32], marks: &mut [bool], p: u32, i: u32, r: u32)
+fn lower_by_road(mem: &mut [u32], place: &[u32], marks: &mut [u32], p: u32, i: u32, r: u32)
     ensures roads_of { (m : Map) → LaidForTables m mem.old → p < part_count m → i < size_of m p → r < road_count m → Noted m p (size_of m p) place.now → most_borders ≤ length marks.old → RoadsOf m p i r (suc r) mem.old mem.new marks.old marks.new }
     ensures mem_len_unchanged { length mem.new ≡ length mem.old }
     ensures marks_len_unchanged { length marks.new ≡ length marks.old }
@@ -71,12 +61,12 @@ fn lower_by_road(mem: &mut [u32], place: &[u32], marks: &mut [bool], p: u32, i: 
     if to != vertex_of(other) {
         return;
     }
-    mark_ends(marks, i, j, part_of(own), part_of(other));
+    mark(marks, i, j, part_of(own), part_of(other));
     lower(mem, rows.table.place(i, j), weight);
 }
 
 // All roads from the vertex of row i of part p.
-fn lower_by_roads(mem: &mut [u32], place: &[u32], marks: &mut [bool], p: u32, i: u32)
+fn lower_by_roads(mem: &mut [u32], place: &[u32], marks: &mut [u32], p: u32, i: u32)
     ensures roads_of { (m : Map) → LaidForTables m mem.old → p < part_count m → i < size_of m p → Noted m p (size_of m p) place.now → most_borders ≤ length marks.old → RoadsOf m p i 0 (road_count m) mem.old mem.new marks.old marks.new }
     ensures mem_len_unchanged { length mem.new ≡ length mem.old }
     ensures marks_len_unchanged { length marks.new ≡ length marks.old }
@@ -90,7 +80,7 @@ fn lower_by_roads(mem: &mut [u32], place: &[u32], marks: &mut [bool], p: u32, i:
 }
 
 // All roads between row vertices of part p.
-pub fn take_roads(mem: &mut [u32], place: &[u32], marks: &mut [bool], p: u32)
+pub fn take_roads(mem: &mut [u32], place: &[u32], marks: &mut [u32], p: u32)
     ensures roads { (m : Map) → LaidForTables m mem.old → p < part_count m → Noted m p (size_of m p) place.now → most_borders ≤ length marks.old → Roads m p (size_of m p) mem.old mem.new marks.old marks.new }
     ensures mem_len_unchanged { length mem.new ≡ length mem.old }
     ensures marks_len_unchanged { length marks.new ≡ length marks.old }

@@ -19,17 +19,16 @@ use table_rows::Table;
 use table_words::{PartRows, row_below};
 
 // Row k is tried, if it is marked as a halt.
-fn try_halt(mem: &mut [u32], marks: &[bool], table: Table, k: u32)
+fn try_halt(mem: &mut [u32], marks: &[u32], table: Table, k: u32)
     ensures { HaltTried table.at table.nodes k marks.now mem.old mem.new }
 {
-    let row = wide(k);
-    if row < marks.len() && marks[row] {
+    if word(marks, wide(k)) == 1 {
         table.try_node(mem, k);
     }
 }
 
 // Every halt of part p is tried in its table.
-fn close(mem: &mut [u32], marks: &[bool], p: u32)
+fn close(mem: &mut [u32], marks: &[u32], p: u32)
     ensures closed { (m : Map) → LaidForTables m mem.old → p < part_count m → AtHome m p mem.old → Closed m p (size_of m p) marks.now mem.old mem.new }
     ensures mem_len_unchanged { length mem.new ≡ length mem.old }
 {
@@ -45,7 +44,7 @@ fn rise(mem: &mut [u32], place: &mut [u32], p: u32)
     ensures mem_len_unchanged { length mem.new ≡ length mem.old }
     ensures place_len_unchanged { length place.new ≡ length place.old }
 {
-    let mut marks = [false; 128];
+    let mut marks = [0; 128];
     PartRows::of(mem, p).table.blank(mem);
     note_rows(mem, p, place);
     take_roads(mem, place, &mut marks, p);

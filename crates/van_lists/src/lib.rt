@@ -79,7 +79,7 @@ fn behind(mem: &[u32], counts: Counts, vertex: u32, van: u32) -> usize
     at
 }
 
-// The van's record is written anew, but for its link.
+// The van's record is written anew, but for its link. Each word is a store of its own: a forged head's memory may end within the record.
 pub fn write_van(mem: &mut [u32], counts: Counts, van: u32, words: VanWords)
     ensures { mem.new ≡ van_written mem.old counts van words }
 {

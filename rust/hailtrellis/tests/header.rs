@@ -114,12 +114,11 @@ fn the_refusals_have_the_wrappers_names_and_numbers() {
 #[test]
 fn the_refusals_have_the_cores_names_and_words_in_its_order() {
     let code = file("crates/answers/src/lib.rt");
-    let cases = between(&code, "pub enum Reply {", "\n}");
+    let cases = between(&code, "pub enum Refusal {", "\n}");
     let lines: Vec<&str> = cases.lines().map(str::trim).collect();
     let core: Vec<(String, String)> = lines
         .windows(2)
         .filter_map(|pair| Some((pair[0].strip_prefix("// ")?, pair[1].strip_suffix(',')?)))
-        .skip(1)
         .map(|(words, name)| (capitals(name), words.replace('×', "*")))
         .collect();
     let mut refusals: Vec<(u32, String, String)> = constants(&file("include/hailtrellis.h"))

@@ -21,7 +21,7 @@ pub returns : goal.returns
 returns c =
     record {
       roads_of = by_own _ _ _ _ _ _ c.counts_in.ensures c.road_at-road.ensures c.of-rows.ensures.nodes c.of-rows.ensures.first c.of-rows.ensures.table c.word-from.ensures c.word-to.ensures c.word-weight.ensures c.wide.ensures c.word-j.ensures c.row_word-own.ensures c.vertex_of.ensures.1 c.row_word-other.ensures c.vertex_of-2.ensures.1 c.if-from-vertex_of.false c.if-rows-j.false c.if-to-vertex_of.false
-          refl refl (rw c.place.ensures at c.lower.ensures) c.part_of.ensures c.part_of-2.ensures c.mark_ends.ensures.halts_marked;
+          refl refl (rw c.place.ensures at c.lower.ensures) c.part_of.ensures c.part_of-2.ensures c.mark.ensures.halts_marked;
       mem_len_unchanged = ap length c.lower.ensures ∙ simp length-set;
-      marks_len_unchanged = c.mark_ends.ensures.marks_len_unchanged;
+      marks_len_unchanged = c.mark.ensures.marks_len_unchanged;
     }
