@@ -74,7 +74,7 @@ fn mark(parents: &[u32], leaf: u32, lift: u32, counts: &mut [u32; 512])
     }
 }
 
-// Counts every vertex for each part that it is a border of. It starts from counts of vertices, which 16 bits hold.
+// Counts every vertex for each part that it is a border of. They start as `tally` left them: none above 65,536.
 fn count_all(
     parents: &[u32],
     leaves: &[u32],

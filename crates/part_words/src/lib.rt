@@ -9,7 +9,7 @@ mod part;
 use layout::{PartRecord, RowRecord, part_word};
 pub use part::PartRows;
 
-// No part has more rows. Map_parts has the same limit for the rules of a map, which a memory's words know nothing of.
+// No part has more rows. A number of this crate, beside that of map_parts: it knows memories, and not the rules of maps.
 pub const MOST_ROWS: usize = 128;
 
 // How many rows a part has, at most 128.

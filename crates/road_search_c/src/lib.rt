@@ -10,7 +10,8 @@ ghost use Rattle.road_search_c.specs.Answer.{Answered};
 use layout::{RoadRecord, VertexRecord};
 use road_search::distances;
 
-// Words that may show roads, known only to lie within the memory; `road_search` has the like for words that do show them. Those of `n` vertices from `vertices_at` on, and of `count` roads from `roads_at` on, are within the memory.
+// Words that may show roads: those of `n` vertices from `vertices_at` on, and of `count` roads from `roads_at` on, are within the memory.
+// Beside `road_search::Roads`, of which more is known: that its words show roads.
 #[derive(Drop)]
 struct Words<'a> {
     mem: &'a [u32],
@@ -40,7 +41,7 @@ impl Words<'_> {
         first <= self.count && (v + 1 == self.n || first <= self.first_out(v + 1))
     }
 
-    // Whether road `j` is.
+    // Whether road `j` is. With this weight at most, the sum along a way of 4,096 vertices is a word.
     fn road_laid(&self, j: usize) -> bool
         requires { j < self.now.count }
         ensures { IsTrue result ↔ LaidRoad self.now.mem.now self.now.vertices_at self.now.n j (shown_road self.now.mem.now (self.now.roads_at + words_in_road * j)) }
@@ -68,7 +69,7 @@ impl Words<'_> {
         (0..self.count).all(|j| self.road_laid(j))
     }
 
-    // Whether they show roads as a search needs them.
+    // Whether they show roads as a search needs them: with a label for each vertex.
     fn laid(&self) -> bool
         ensures { IsTrue result ↔ LaidMap self.now.mem.now self.now.vertices_at self.now.n self.now.roads_at self.now.count }
     {

@@ -21,14 +21,14 @@ pub fn vertex_of(mark: u32) -> u32
     mark % RowRecord::CHILD
 }
 
-// 0 for a leaf's row, whose vertex no child holds: as the memory's word has it, and no Option, since marks are also compared with one another.
+// 0 for a leaf's row, whose vertex no child holds: as the memory's word has it, and no Option, since two rows' children are also compared.
 pub fn part_of(mark: u32) -> u32
     ensures { (v c : ℕ) → v < child_in_row → mark ≡ v + child_in_row * c → result ≡ c }
 {
     mark / RowRecord::CHILD
 }
 
-// As a number of the kind that addresses in a record are.
+// As a word, as the addresses in a record are.
 const ROW_WORDS: u32 = RowRecord::WORDS as u32;
 
 // The number of the row at `row` among those that start at `first`.

@@ -38,7 +38,7 @@ fn close(mem: &mut [u32], marks: &[u32], p: u32)
     }
 }
 
-// The table of part p, right inside the part, where those of the later parts are.
+// The table of part p, right inside the part, where those of the later parts are. There is a mark for each of its rows, which are 128 at most.
 fn rise(mem: &mut [u32], place: &mut [u32], p: u32)
     ensures risen { (m : Map) → LaidForTables m mem.old → p < part_count m → most_vertices ≤ length place.old → Inside m (suc p) mem.old → Risen m p mem.old mem.new }
     ensures mem_len_unchanged { length mem.new ≡ length mem.old }
