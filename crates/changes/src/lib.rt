@@ -1,5 +1,6 @@
 // Add, move, remove, claim and release on a lent memory. All tests come before the first store. Each change of a van is one or two of these: written anew in
 // its place, taken out of the list of a vertex, put into the list of a vertex; the rows are refreshed where a vertex becomes active or inactive.
+// That a van is below 1,024 is a clause, and known where a change is in range.
 // A memory and its counts are no struct: what reads is lent `&[u32]` and what changes `&mut [u32]`, and a struct holds only one of these.
 #![tactic(auto)]
 

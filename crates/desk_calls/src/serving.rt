@@ -1,5 +1,5 @@
 // One call: the core is asked, and the lines of what it answers are stored in a lent buffer. No struct holds the buffer and the place in it, as in `desk_lines`: each of
-// its methods would have to ensure that it holds the same `&mut` still.
+// its methods would have to ensure that it holds the same `&mut` still. The buffers are slices whose lengths are clauses: who lends them owns them.
 ghost use Rattle.std.specs.Prelude.{◌≡◌, ◌≤◌, min, length};
 ghost use Rattle.words.specs.Lists.{gather};
 ghost use Rattle.words.specs.Limits.{most_asked};

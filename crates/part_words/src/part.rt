@@ -5,7 +5,8 @@ ghost use Rattle.layout.specs.Layout.{words_in_row};
 
 use layout::RowRecord;
 
-// `size` rows from `first` on, and a table of `size` lines.
+// `size` rows from `first` on, and a table of `size` lines. That they lie within a memory is no fact of the type but a clause, `Within`, of who is lent one: a memory
+// is another after each change.
 #[derive(Clone, Copy)]
 pub struct PartRows {
     pub size: usize,

@@ -53,7 +53,7 @@ fn close_by(mem: &[u32], x: u32, k: usize) -> bool
     among_few(k, size, active)
 }
 
-// The first k of all free vans that can reach x, in order of distance and then van number.
+// The first k of all free vans that can reach x, in order of distance and then van number. k is a number with its limits in a clause, as the calls have it.
 pub fn nearest_vans(mem: &[u32], x: u32, k: usize) -> BestList
     requires { (1 ≤ k) × (k ≤ 32) }
     ensures { (length result.offers ≤ k) × ((m : Map) (fleet : State) → Genuine m fleet mem.now → x < m.vertices → list_in mem.now result ≡ nearest m fleet x k) }

@@ -1,8 +1,7 @@
 // Roads relaxed: a road whose offer is less than the label of its end lowers it, and the end waits.
 #![tactic(auto)]
 
-ghost use Rattle.std.specs.Prelude.{◌≡◌, length};
-ghost use Rattle.words.specs.Limits.{most_vertices};
+ghost use Rattle.std.specs.Prelude.{◌≡◌};
 ghost use Rattle.roads.specs.Dist.{relax, relax_all};
 ghost use Rattle.road_relax.specs.Relaxing.{shown_road, shown_roads, Leaves, Fan, wake, wake_all};
 
@@ -11,8 +10,7 @@ use waiting::Waiting;
 
 // The road at `at`, which leaves `u`, is relaxed. The labels are lent apart from the waiting vertices: they are the C caller's own array.
 fn relax_road(mem: &[u32], at: usize, u: usize, labels: &mut [u32; 4096], waiting: &mut Waiting)
-    requires leaves { Leaves mem.now at u }
-    requires labels_len { length labels.old ≡ most_vertices }
+    requires { Leaves mem.now at u }
     ensures labels_after { labels.new ≡ relax (shown_road mem.now at) labels.old }
     ensures keys_after { waiting.new ≡ wake (shown_road mem.now at) labels.old waiting.old }
 {
@@ -34,8 +32,7 @@ pub fn relax_out(
     labels: &mut [u32; 4096],
     waiting: &mut Waiting,
 )
-    requires fan { Fan mem.now at k u }
-    requires labels_len { length labels.old ≡ most_vertices }
+    requires { Fan mem.now at k u }
     ensures labels_after { labels.new ≡ relax_all (shown_roads mem.now at k) labels.old }
     ensures keys_after { waiting.new ≡ wake_all (shown_roads mem.now at k) labels.old waiting.old }
 {

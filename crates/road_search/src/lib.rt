@@ -41,7 +41,6 @@ impl Roads<'_> {
     // The vertex `u` is taken: it ceases to wait, and its roads out are relaxed.
     fn turn(&self, u: usize, labels: &mut [u32; 4096], waiting: &mut Waiting)
         requires u_lt_n { u < self.now.n }
-        requires labels_len { length labels.old ≡ most_vertices }
         ensures labels_after { labels.new ≡ relax_all (roads_out self.now.mem.now self.now.vertices_at self.now.n self.now.roads_at self.now.count u) labels.old }
         ensures keys_after { waiting.new ≡ wake_all (roads_out self.now.mem.now self.now.vertices_at self.now.n self.now.roads_at self.now.count u) labels.old (set waiting.old u FAR) }
     {

@@ -1,4 +1,5 @@
 // A vertex became active: it is offered to the rows of a part by way of the sources that show it.
+// The numbers of rows are a slice, and that each is below a part's size is a clause (`EachBelow`): the limit is another value's.
 #![tactic(auto)]
 
 ghost use Rattle.std.specs.Prelude.{◌≡◌, false, ◌∷◌, ◌+◌, ◌*◌, ◌≤◌, ◌<◌, length};

@@ -1,4 +1,5 @@
 // A vertex became inactive: the rows of a part that show it are made anew from the part's sources as they stand.
+// The numbers of rows are a slice, and that each is below a part's size is a clause (`EachBelow`): the limit is another value's.
 #![tactic(auto)]
 
 ghost use Rattle.std.specs.Prelude.{◌≡◌, map, ◌+◌, ◌*◌, ◌^◌, ◌≤◌, ◌<◌, length, take};

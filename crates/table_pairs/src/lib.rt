@@ -1,4 +1,5 @@
 // The table of a part and those of its children: at the vertices that they share each word becomes the lesser of the two.
+// That the memory keeps its length is a clause of each function: `agree` promises it, and what it calls hands it on.
 #![tactic(auto)]
 
 ghost use Rattle.std.specs.Prelude.{◌≡◌, ℕ, ◌≤◌, ◌<◌, length};

@@ -1,4 +1,5 @@
 // The roads between the row vertices of a part: each lowers one word of the part's table, and marks its ends where it leads out of a child.
+// That the memory and the marks keep their lengths is a clause of each function: `take_roads` promises it, and what it calls hands it on.
 #![tactic(auto)]
 
 ghost use Rattle.std.specs.Prelude.{◌≡◌, suc, ◌≤◌, ◌<◌, length};

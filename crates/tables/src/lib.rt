@@ -1,6 +1,7 @@
 // The distance tables of all parts, in place. From the last part to the first each table is made right inside its part, from the roads between the
 // part's row vertices and the children's tables; then, from the first part to the last, each child's table becomes right over the whole map, by way
 // of its boundary vertices and the parent's table.
+// That the memory keeps its length is a clause of each function: `fill_tables` promises it, and what it calls hands it on.
 #![tactic(auto)]
 
 ghost use Rattle.std.specs.Prelude.{◌≡◌, List, ℕ, suc, ◌≤◌, ◌<◌, length};

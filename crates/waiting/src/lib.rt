@@ -10,7 +10,7 @@ ghost use Rattle.waiting.specs.Waiting.{Picked};
 use far_sums::FAR;
 use std::marker::Model;
 
-// A key with its vertex: the lesser of two has the lesser key. Not `row_words::numbered`, which is of a memory's rows: a search knows none.
+// A key with its vertex, which is an index here, with its limit in a clause of each function. The lesser of two has the lesser key. Not `row_words::numbered`, which is of a memory's rows: a search knows none.
 fn keyed(key: u32, v: usize) -> u64
     requires { v < 4096 }
     ensures { result ≡ key * 65536 + v }

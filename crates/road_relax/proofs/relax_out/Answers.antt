@@ -5,8 +5,8 @@ use Prim.Native.Nat.{◌-◌, ◌≤◌}
 use native.Mathlib.Omega.{arith}
 use Rattle.road_relax.proofs.relax_out.Goals as goal
 
-pub relax_road-requires-clause-leaves : goal.relax_road-requires-clause-leaves
-relax_road-requires-clause-leaves c = left_here _ (search rules) c.loop-i.invariant
+pub relax_road-requires : goal.relax_road-requires
+relax_road-requires c = left_here _ (search rules) c.loop-i.invariant
 
 pub overflow_mul-i : goal.overflow_mul-i
 overflow_mul-i c = omega (arith, (left_here _ (search rules) c.loop-i.invariant).fits)

@@ -4,8 +4,8 @@ use Rattle.road_search.specs.Layout.{roads_out}
 use Rattle.road_search.proofs.Fans.{Found, found}
 use Rattle.road_search.proofs.Roads.turn.Goals as goal
 
-pub relax_out-requires-clause-fan : goal.relax_out-requires-clause-fan
-relax_out-requires-clause-fan c =
+pub relax_out-requires : goal.relax_out-requires
+relax_out-requires c =
     let there : Found c.args.self.now.mem.now c.args.self.now.roads_at c.args.u _ c.next_out-next.result = rw c.next_out-next.ensures (found c.args.self.now.laid c.args.u c.requires.u_lt_n) in
     there.fan
 
