@@ -40,7 +40,7 @@ pub fn take_map(bytes: &[u8]) -> Option<usize>
     ensures { result ≡ take_records 4 0 bytes.now }
 {
     let mut at: usize = 0;
-    for _ in 0..4 {
+    for _ in 0..4u32 {
         if bytes.len() < at + 4 {
             return Some(at);
         }
