@@ -38,7 +38,8 @@ pub enum Line {
     },
 }
 
-// No struct holds the buffer and the place in it: each of its methods would have to ensure that it holds the same `&mut` still.
+// No struct holds the buffer and the place in it: each of its methods would have to ensure that it holds the same `&mut` still. That a place is far below the largest
+// number is a clause of each function: lengths are added to it.
 
 fn put_byte(out: &mut [u8], at: usize, b: u8)
     ensures { out.new ≡ set out.old at b }

@@ -1,12 +1,11 @@
 -- What is left in the window: moved to its start, and after bytes that are taken.
 -- Assumes nothing.
-use mathlib.Core.Path.{◌≡◌, refl, sym, ap, ◌∙◌}
-use mathlib.Core.List.{List, [], ◌∷◌, ◌++◌}
-use Prim.Native.Nat.{ℕ, zero, suc, ◌+◌, ◌-◌, ◌<◌}
-use native.Mathlib.Numerals.{add-one}
+use mathlib.Core.Path.{◌≡◌, sym, ap, ◌∙◌}
+use mathlib.Core.List.{List, [], ◌∷◌}
+use Prim.Native.Nat.{ℕ, zero, suc, ◌+◌, ◌-◌}
 use native.Mathlib.Omega.{arith}
-use lib.ListN.{length, take, drop, get_or, set, length-drop, length-set}
-use lib.Seq.{take-nil, take-suc, take-suc-set, drop-set-lt, get_or-drop, drop-drop}
+use lib.ListN.{take, drop}
+use lib.Seq.{take-nil, drop-drop}
 
 -- a part of a part
 pub take_drop : (k n : ℕ) (l : List ℕ) → take (n - k) (drop k l) ≡ drop k (take n l)

@@ -10,7 +10,7 @@ use native.Mathlib.Omega.{arith}
 use lib.ListN.{length, take, drop, length-drop, drop_of_length-le}
 use lib.Seq.{take_all}
 use lib.Dec.{leb}
-use borrow.Author.Tests.{le-leb, lt-leb}
+use borrow.Author.Tests.{le-leb}
 use Rattle.words.specs.Lists.{gather}
 use Rattle.words.specs.Tests.{◌unless◌then◌}
 use Rattle.roads.specs.Map.{Map, road_count, part_count}
@@ -26,15 +26,12 @@ use Rattle.calls.proofs.Run.{opened_memory}
 use Rattle.counts.specs.declared.Counts.{Counts}
 use Rattle.answers.specs.declared.Refusal.{Refusal}
 use Rattle.answers.specs.Answered.{answered}
-use Rattle.map_judge.specs.declared.Sound.{Sound}
-use Rattle.map_judge.specs.Verdict.{said, due}
-use Rattle.map_judge.proofs.Said.{said_sound, said_refused}
 use Rattle.desk_lines.specs.declared.record.BadRecord.{BadRecord}
 use Rattle.desk_lines.specs.declared.line.Line.{Line}
 use Rattle.desk_lines.specs.declared.line.Line.TheVariants.{Opened as OpenedLine}
 use Rattle.desk_lines.specs.Line.{text_of}
-use Rattle.desk_lines.specs.Read.{bad, opening_bytes, take_records, opening_of}
-use Rattle.desk_lines.specs.Desk.{memory_room, bad_at, refused_opening}
+use Rattle.desk_lines.specs.Read.{opening_bytes, take_records, opening_of}
+use Rattle.desk_lines.specs.Desk.{memory_room, refused_opening}
 use Rattle.desk_lines.specs.Written.{Wrote}
 use Rattle.desk_lines.proofs.Lines.{wrote_line}
 use Rattle.desk_lines.proofs.Window.{opening_within}

@@ -1,8 +1,7 @@
 -- NextStep that end the program, and how much room the lines of a step take.
 -- Assumes nothing.
-use mathlib.Core.Path.{◌≡◌, refl}
+use mathlib.Core.Path.{◌≡◌}
 use mathlib.Core.List.{List, [], ◌∷◌}
-use Rattle.std.specs.Prelude.{None}
 use Prim.Native.Nat.{ℕ, ◌+◌, ◌≤◌}
 use native.Mathlib.Omega.{arith}
 use lib.ListN.{length}
@@ -10,7 +9,7 @@ use Rattle.words.specs.Lists.{gather}
 use Rattle.desk_lines.specs.declared.line.Line.{Line}
 use Rattle.desk_lines.specs.Line.{line_bytes, text_of}
 use Rattle.desk_lines.specs.Written.{Wrote}
-use Rattle.desk_lines.proofs.Lines.{line_few, lines_few, wrote_line}
+use Rattle.desk_lines.proofs.Lines.{line_few, lines_few}
 use Rattle.desk_lines.proofs.Writing.{wrote_more}
 use Rattle.desk_calls.specs.Served.{most_lines}
 use Rattle.desk_steps.specs.declared.Step.{Step}

@@ -25,7 +25,8 @@ fn relax_row(best: &mut [u32], row: &[u32], x: u32)
     }
 }
 
-// Every row of the table is relaxed by the row of `k`, of which `row` starts with a copy.
+// Every row of the table is relaxed by the row of `k`, of which `row` starts with a copy. A table here is the words cut for it and its number of nodes, and that there are
+// words enough is a clause: no struct holds words that are lent to be written.
 fn try_rows(table: &mut [u32], n: usize, k: usize, row: &[u32])
     requires { (k < n) × (n ≤ most_borders) × (n * n ≤ length table.old) × StartsWith n k table.old row.now }
     ensures { Holds n n table.new (through k (entry n table.old)) }

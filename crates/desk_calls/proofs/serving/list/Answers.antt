@@ -3,7 +3,6 @@
 use mathlib.Core.Path.{◌≡◌, refl}
 use Prim.Native.Nat.{min}
 use native.Mathlib.Omega.{arith}
-use borrow.Author.Rules.{rules}
 use Rattle.words.specs.Limits.{most_asked}
 use Rattle.desk_calls.proofs.Calls.{vans_none, vans_next, vans_end, list_whole, line_end}
 use Rattle.desk_calls.proofs.serving.list.Goals as goal
