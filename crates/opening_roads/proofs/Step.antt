@@ -13,8 +13,6 @@ use Rattle.words.specs.Lists.{word, link}
 use Rattle.layout.specs.Layout.{words_in_road}
 use Rattle.roads.specs.Map.{Road, Map, road_count, road_at, no_road}
 use Rattle.image.specs.Places.{roads_at}
-use Rattle.counts.specs.declared.Counts.{Counts}
-use Rattle.places.specs.Place.{road_address}
 use Rattle.image.specs.Image.{ends_at}
 use Rattle.image.specs.Records.{road_record}
 use Rattle.maps.specs.Bytes.{road_shown}
@@ -22,16 +20,16 @@ use Rattle.records.specs.Written.{Written}
 use Rattle.records.proofs.Written.{written_none, written_down}
 use Rattle.opening_roads.specs.Roads.{road_words, RoadsReady, RoadsStand}
 
-module _ (m : Map) (body : List ℕ) (counts : Counts) (ins₀ mem₀ : List ℕ) (ready : RoadsReady m body counts ins₀ mem₀) where
-  pub roads_none : RoadsStand m counts.roads mem₀ ins₀ mem₀
+module _ (m : Map) (body : List ℕ) (roads base : ℕ) (ins₀ mem₀ : List ℕ) (ready : RoadsReady m body roads base ins₀ mem₀) where
+  pub roads_none : RoadsStand m roads mem₀ ins₀ mem₀
   roads_none =
       record {
-        records = subst (λ (k : ℕ). Written (roads_at m) words_in_road counts.roads k (road_record m) mem₀ mem₀) ready.count (written_none (roads_at m) words_in_road (road_record m) counts.roads mem₀);
-        links = λ v h. ready.none v h ∙ ap (link (ends_at v) counts.roads) (sym (drop_of_length-le m.roads (let all : road_count m ≤ counts.roads = omega (arith, ready.count) in all)));
+        records = subst (λ (k : ℕ). Written (roads_at m) words_in_road roads k (road_record m) mem₀ mem₀) ready.count (written_none (roads_at m) words_in_road (road_record m) roads mem₀);
+        links = λ v h. ready.none v h ∙ ap (link (ends_at v) roads) (sym (drop_of_length-le m.roads (let all : road_count m ≤ roads = omega (arith, ready.count) in all)));
       }
 
-  module _ (i next at : ℕ) (ins ins' mem mem' : List ℕ) (more : next ≡ i + 1) (some : i < counts.roads) (long : length ins ≡ length ins₀) (old : RoadsStand m next mem₀ ins mem)
-      (place : at ≡ road_address counts i) (stored : mem' ≡ sets mem at (road_words (road_shown body i) (word ins (road_shown body i).to))) (pushed : ins' ≡ set ins (road_shown body i).to (i + 1)) where
+  module _ (i next : ℕ) (ins ins' mem mem' : List ℕ) (more : next ≡ i + 1) (some : i < roads) (long : length ins ≡ length ins₀) (old : RoadsStand m next mem₀ ins mem)
+      (stored : mem' ≡ sets mem (base + words_in_road * i) (road_words (road_shown body i) (word ins (road_shown body i).to))) (pushed : ins' ≡ set ins (road_shown body i).to (i + 1)) where
     here : i < road_count m
     here = omega (arith, ready.count)
 
@@ -84,6 +82,6 @@ module _ (m : Map) (body : List ℕ) (counts : Counts) (ins₀ mem₀ : List ℕ
         record {
           records =
               written_down (roads_at m) words_in_road (road_record m) i next (road_count m) mem₀ mem mem' more here sized (omega (arith, ready.room, old.records.long)) old.records
-              (stored ∙ ap₂ (sets mem) (place ∙ ap (λ (k : ℕ). k + words_in_road * i) ready.start) same_record);
+              (stored ∙ ap₂ (λ (k : ℕ) (l : List ℕ). sets mem (k + words_in_road * i) l) ready.start same_record);
           links = links_now;
         }

@@ -1,12 +1,11 @@
 -- The roads from number i on, written into their section.
 use Rattle.std.specs.Prelude.{◌≡◌, List, [], ◌∷◌, ℕ, ◌+◌, ◌*◌, ◌≤◌, ◌<◌, length, drop}
 use Rattle.words.specs.Lists.{word, link}
-use Rattle.layout.specs.Layout.{words_in_road, roads_from}
+use Rattle.layout.specs.Layout.{words_in_road}
 use Rattle.roads.specs.Map.{Road, Map, road_count, road_at}
 use Rattle.image.specs.Places.{roads_at}
 use Rattle.image.specs.Image.{ends_at}
 use Rattle.image.specs.Records.{road_record}
-use Rattle.counts.specs.declared.Counts.{Counts}
 use Rattle.map_shown.specs.Shown.{ShowsRoads}
 use Rattle.records.specs.Written.{Written}
 
@@ -15,9 +14,9 @@ abbrev pub road_words : Road → ℕ → List ℕ
 road_words r next = r.from ∷ r.to ∷ r.weight ∷ next ∷ []
 
 -- what is lent shows the roads of m, has room for them, and no road is linked yet
-pub record RoadsReady (m : Map) (body : List ℕ) (counts : Counts) (ins mem : List ℕ) : Type 0 where
-  pub count : counts.roads ≡ road_count m
-  pub start : roads_from counts.parts counts.vertices ≡ roads_at m
+pub record RoadsReady (m : Map) (body : List ℕ) (roads base : ℕ) (ins mem : List ℕ) : Type 0 where
+  pub count : roads ≡ road_count m
+  pub start : base ≡ roads_at m
   pub shown : ShowsRoads m body
   pub ends : (i : ℕ) → i < road_count m → (road_at m i).to < length ins
   pub none : (v : ℕ) → v < length ins → word ins v ≡ 0

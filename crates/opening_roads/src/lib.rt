@@ -2,22 +2,22 @@
 // and each is put in front of the roads into the same vertex that come after it.
 #![tactic(auto)]
 
-ghost use Rattle.std.specs.Prelude.{◌≡◌, ◌+◌, ◌<◌, set};
+ghost use Rattle.std.specs.Prelude.{◌≡◌, ◌+◌, ◌<◌, ◌≤◌, set};
 ghost use Rattle.std.proofs.lemmas.List.Edits.{sets};
+ghost use Rattle.words.specs.Limits.{most_roads};
 ghost use Rattle.words.specs.Lists.{word};
 ghost use Rattle.roads.specs.Map.{Map};
 ghost use Rattle.maps.specs.Bytes.{road_shown};
 ghost use Rattle.opening_roads.specs.Roads.{road_words, RoadsReady, RoadsStand};
 
 use cells::{put, word};
-use map_parts::ShownMap;
+use layout::RoadRecord;
 use map_roads::Road;
-use places::road_at;
 use records::put_words;
 
-// Road i, at `at`, in front of the roads into its end. The link is the number and 1, which a word holds.
+// Road i, at `at`, in front of the roads into its end.
 fn write_road(body: &[u8], i: u32, at: usize, ins: &mut [u32], mem: &mut [u32])
-    requires { i < 4294967295 }
+    requires { i < most_roads }
     ensures { (mem.new ≡ sets mem.old at (road_words (road_shown body.now i) (word ins.old (road_shown body.now i).to))) × (ins.new ≡ set ins.old (road_shown body.now i).to (i + 1)) }
 {
     let road = Road::read(body, i);
@@ -27,11 +27,13 @@ fn write_road(body: &[u8], i: u32, at: usize, ins: &mut [u32], mem: &mut [u32])
     put(ins, end, i + 1);
 }
 
-// The roads of the map; `ins`, all 0 before, has a word for each vertex.
-pub fn write_roads(shown: &ShownMap, ins: &mut [u32], mem: &mut [u32])
-    ensures { (m : Map) → RoadsReady m shown.now.body.now shown.now.counts ins.old mem.old → RoadsStand m 0 mem.old ins.new mem.new }
+// The roads of a map whose section starts at `base`; `ins`, all 0 before, has a word for each vertex.
+pub fn write_roads(body: &[u8], roads: u32, base: u32, ins: &mut [u32], mem: &mut [u32])
+    requires { (roads ≤ most_roads) × (base ≤ 65536) }
+    ensures { (m : Map) → RoadsReady m body.now roads base ins.old mem.old → RoadsStand m 0 mem.old ins.new mem.new }
 {
-    for i in (0..shown.counts.roads).rev() {
-        write_road(shown.body, i, road_at(shown.counts, i), ins, mem);
+    for i in (0..roads).rev() {
+        let at = base as usize + RoadRecord::WORDS * i as usize;
+        write_road(body, i, at, ins, mem);
     }
 }

@@ -6,13 +6,8 @@ use Rattle.std.specs.Option.{unwrap_or}
 use Rattle.maps.specs.Bytes.{road_shown}
 use native.Mathlib.Decide.{ℕ_discrete, dec_lt}
 use lib.Seq.{sets}
-use Rattle.words.specs.Limits.{most_parts}
 use Rattle.words.specs.Lists.{word, up_to, keep, place_in, link}
 use Rattle.words.specs.Ranks.{rank}
-use Rattle.words.proofs.Lists.{all_same}
-use Rattle.counts.specs.declared.Counts.{Counts}
-use Rattle.places.specs.Place.{vertex_address}
-use lib.ListN.{replicate}
 use Rattle.words.proofs.Ranks.{rank_none, rank_kept, rank_left, rank_most, rank_place, keep_first}
 use Rattle.layout.specs.Layout.{words_in_vertex}
 use Rattle.roads.specs.Map.{Road, Map, road_count, road_at, no_road}
@@ -44,18 +39,18 @@ pub record Taken (m : Map) (v : ℕ) (places : List ℕ) (road : ℕ) : Type 0 w
   pub reached : road ≤ road_count m
   pub passed : (i : ℕ) → i < road → (road_at m i).from < v
 
-module _ (m : Map) (leaves body : List ℕ) (counts : Counts) (ins mem₀ : List ℕ) (ready : VerticesReady m leaves body counts ins mem₀) where
-  pub taken_none : Taken m 0 (replicate most_parts 0) 0
-  taken_none = record { place = λ q h. all_same most_parts q 0 ∙ sym (rank_none (stands_in m q)); reached = omega arith; passed = λ i h. absurd (omega arith) }
+module _ (m : Map) (leaves body : List ℕ) (roads vertices base : ℕ) (ins places₀ mem₀ : List ℕ) (ready : VerticesReady m leaves body roads vertices base ins places₀ mem₀) where
+  pub taken_none : Taken m 0 places₀ 0
+  taken_none = record { place = λ q h. ready.none q h ∙ sym (rank_none (stands_in m q)); reached = omega arith; passed = λ i h. absurd (omega arith) }
 
   -- the roads rise by their start
   rises : (i j : ℕ) → i ≤ j → j < road_count m → (road_at m i).from ≤ (road_at m j).from
   rises i zero h k = subst (λ (n : ℕ). (road_at m n).from ≤ (road_at m 0).from) (let none : 0 ≡ i = omega arith in none) (omega arith)
   rises i (suc j) h k = elim (ℕ_discrete i (suc j)) [ yes same ↦ subst (λ (n : ℕ). (road_at m n).from ≤ (road_at m (suc j)).from) (sym same) (omega arith) | no other ↦ omega (arith, rises i j (omega (arith, other)) (omega arith), ready.rising j k) ]
 
-  module _ (v road road' leaf place in-link at : ℕ) (places places' mem mem' : List ℕ) (h : v < counts.vertices) (long : length places ≡ most_parts) (taken : Taken m v places road)
-      (skipped : Skipped body counts.roads road v road') (is_IsLeaf : leaf ≡ word leaves v) (is_place : place ≡ word places leaf) (takes : places' ≡ set places leaf ((place + 1) % 2 ^ 32))
-      (is-link : in-link ≡ word ins v) (is_at : at ≡ vertex_address counts v) (stored : mem' ≡ sets mem at (vertex_words leaf place road' in-link)) where
+  module _ (v road road' leaf place in-link : ℕ) (places places' mem mem' : List ℕ) (h : v < vertices) (long : length places ≡ length places₀) (taken : Taken m v places road)
+      (skipped : Skipped body roads road v road') (is_IsLeaf : leaf ≡ word leaves v) (is_place : place ≡ word places leaf) (takes : places' ≡ set places leaf ((place + 1) % 2 ^ 32))
+      (is-link : in-link ≡ word ins v) (stored : mem' ≡ sets mem (base + words_in_vertex * v) (vertex_words leaf place road' in-link)) where
     here : v < m.vertices
     here = omega (arith, ready.count)
 
@@ -63,7 +58,7 @@ module _ (m : Map) (leaves body : List ℕ) (counts : Counts) (ins mem₀ : List
     leaf_is = is_IsLeaf ∙ ready.leaves_shown v here
 
     leaf_in : leaf < length places
-    leaf_in = omega (arith, ready.leaf_part v here, ap (λ (n : ℕ). n) leaf_is)
+    leaf_in = omega (arith, ready.leaf_room v here, ap (λ (n : ℕ). n) leaf_is)
 
     place_is : place ≡ rank (stands_in m leaf) v
     place_is = is_place ∙ taken.place leaf leaf_in
@@ -102,7 +97,7 @@ module _ (m : Map) (leaves body : List ℕ) (counts : Counts) (ins mem₀ : List
     vertices_more : VerticesStand m v mem₀ mem → VerticesStand m (v + 1) mem₀ mem'
     vertices_more old =
         written_up (vertices_at m) words_in_vertex (fresh_vertex m) 0 v mem₀ mem mem' (omega arith) sized (omega (arith, ready.room, old.long)) old
-        (stored ∙ ap₂ (sets mem) (is_at ∙ ap (λ (k : ℕ). k + words_in_vertex * v) ready.start) same_record)
+        (stored ∙ ap₂ (λ (k : ℕ) (l : List ℕ). sets mem (k + words_in_vertex * v) l) ready.start same_record)
 
     one_more : (place + 1) % 2 ^ 32 ≡ suc (rank (stands_in m leaf) v)
     one_more = omega (arith, place_is, rank_most (stands_in m leaf) v, ready.few)

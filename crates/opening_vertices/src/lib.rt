@@ -3,14 +3,14 @@
 #![tactic(auto)]
 
 ghost use Rattle.std.specs.Prelude.{◌≡◌, ◌+◌, ◌%◌, ◌^◌, ◌≤◌, slice_set};
+ghost use Rattle.words.specs.Limits.{most_vertices, most_roads};
 ghost use Rattle.words.specs.Lists.{word};
 ghost use Rattle.roads.specs.Map.{Map};
 ghost use Rattle.opening_vertices.specs.Vertices.{Skipped, VerticesReady, VerticesStand};
 
 use cells::{put, word};
-use map_parts::ShownMap;
+use layout::VertexRecord;
 use map_roads::Road;
-use places::vertex_at;
 use records::put_words;
 use rows::Row;
 
@@ -34,18 +34,28 @@ fn next_place(places: &mut [u32], leaf: u32) -> u32
     place
 }
 
-// The vertices of the map, without vans; `ins` has the link from each to the first road into it.
-pub fn write_vertices(shown: &ShownMap, ins: &[u32], mem: &mut [u32])
-    ensures { (m : Map) → VerticesReady m shown.now.leaves shown.now.body.now shown.now.counts ins.now mem.old → VerticesStand m m.vertices mem.old mem.new }
+// The vertices of a map whose section starts at `base`, without vans; `ins` has the link from each to the first road into it, and
+// `places`, all 0 before, a word for each part.
+pub fn write_vertices(
+    leaves: &[u32],
+    body: &[u8],
+    roads: u32,
+    vertices: u32,
+    base: u32,
+    ins: &[u32],
+    places: &mut [u32],
+    mem: &mut [u32],
+)
+    requires { (roads ≤ most_roads) × (vertices ≤ most_vertices) × (base ≤ 65536) }
+    ensures { (m : Map) → VerticesReady m leaves.now body.now roads vertices base ins.now places.old mem.old → VerticesStand m vertices mem.old mem.new }
 {
-    let mut places: [u32; 512] = [0; 512];
     let mut road = 0;
-    for v in 0..shown.counts.vertices {
-        road = skip(shown.body, shown.counts.roads, road, v);
-        let leaf = shown.leaf(v);
-        let place = next_place(&mut places, leaf);
+    for v in 0..vertices {
+        road = skip(body, roads, road, v);
+        let leaf = word(leaves, v as usize);
+        let place = next_place(places, leaf);
         let link = word(ins, v as usize);
-        let at = vertex_at(shown.counts, v);
+        let at = base as usize + VertexRecord::WORDS * v as usize;
         put_words(
             mem,
             at,

@@ -9,5 +9,5 @@ loop-i-preserved c =
     let args = c.args in
     let loop = c.loop-i in
     λ m ready.
-    roads_more m args.shown.now.body.now args.shown.now.counts args.ins.now args.mem.now ready (loop.i - 1) loop.i _ loop.ins _ loop.mem _ (omega arith) (omega arith) loop.auto.ins (loop.invariant m ready)
-    c.road_at.ensures c.write_road.ensures.0 c.write_road.ensures.1
+    roads_more m args.body.now args.roads args.base args.ins.now args.mem.now ready (loop.i - 1) loop.i loop.ins _ loop.mem _ (omega arith) (omega arith) loop.auto.ins (loop.invariant m ready)
+    c.write_road.ensures.0 c.write_road.ensures.1
