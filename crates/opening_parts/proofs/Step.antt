@@ -7,13 +7,12 @@ use Prim.Native.Nat.{ℕ, suc, ◌+◌, ◌*◌, ◌-◌, ◌^◌, ◌≤◌, �
 use native.Mathlib.Nat.{mul-le-mul_left}
 use native.Mathlib.Decide.{ℕ_discrete}
 use native.Mathlib.Omega.{arith}
-use lib.ListN.{length, replicate, set, length-set, get_or-eq_default}
+use lib.ListN.{length, set, length-set, get_or-eq_default}
 use lib.Seq.{sets, get_or-set_same, get_or-set_other}
 use lib.Dec.{eqb, ltb}
 use borrow.Author.Tests.{eq-eqb, ne_eqb, lt-ltb, le-ltb}
 use Rattle.words.specs.Lists.{word, count_from, up_to, keep, first_or}
-use Rattle.words.specs.Limits.{most_parts}
-use Rattle.words.proofs.Lists.{all_same, count_from_below, keep_same}
+use Rattle.words.proofs.Lists.{count_from_below, keep_same}
 use Rattle.words.proofs.Places.{count_from_from}
 use Rattle.words.proofs.Sums.{sum_last}
 use Rattle.words.proofs.Ranks.{keep_none, keep_split}
@@ -55,34 +54,34 @@ pub record Families (m : Map) (p : ℕ) (cs : List ℕ) (table row : ℕ) : Type
   pub table_at : table ≡ table_of m p
   pub row_at_lem : row ≡ first_row_of m p
 
-module _ (m : Map) (parents sizes : List ℕ) (parts used : ℕ) (mem₀ : List ℕ) (ready : PartsReady m parents sizes parts used mem₀) where
-  pub families_none : (tables_end : ℕ) → tables_end ≡ rows_at m → Families m parts (replicate most_parts 0) tables_end used
+module _ (m : Map) (parents sizes : List ℕ) (parts tablesEnd rowsEnd : ℕ) (cs₀ mem₀ : List ℕ) (ready : PartsReady m parents sizes parts tablesEnd rowsEnd cs₀ mem₀) where
+  pub families_none : Families m parts cs₀ tablesEnd rowsEnd
   unfolding first_from table_of first_row_of table_words row_count
-  families_none tables_end tables =
+  families_none =
       record {
-        first = λ q h. all_same most_parts q 0 ∙ ap (λ (k : ℕ). first_or 0 (keep (child_test m q) (count_from parts k))) (let none : 0 ≡ part_count m - parts = omega (arith, ready.sized.count) in none);
-        table_at = tables ∙ rows_start m ∙ ap (λ (k : ℕ). tables_at m + table_words_below m k) (sym ready.sized.count);
-        row_at_lem = ready.sized.rows ∙ sym (rows_end m) ∙ ap (λ (k : ℕ). rows_at m + words_in_row * rows_below m k) (sym ready.sized.count);
+        first = λ q h. ready.none q h ∙ ap (λ (k : ℕ). first_or 0 (keep (child_test m q) (count_from parts k))) (let none : 0 ≡ part_count m - parts = omega (arith, ready.count) in none);
+        table_at = ready.tables ∙ rows_start m ∙ ap (λ (k : ℕ). tables_at m + table_words_below m k) (sym ready.count);
+        row_at_lem = ready.rows ∙ sym (rows_end m) ∙ ap (λ (k : ℕ). rows_at m + words_in_row * rows_below m k) (sym ready.count);
       }
 
   pub parts_none : PartsStand m parts mem₀ mem₀
-  parts_none = subst (λ (k : ℕ). Written parts_at words_in_part parts k (part_record m) mem₀ mem₀) ready.sized.count (written_none parts_at words_in_part (part_record m) parts mem₀)
+  parts_none = subst (λ (k : ℕ). Written parts_at words_in_part parts k (part_record m) mem₀ mem₀) ready.count (written_none parts_at words_in_part (part_record m) parts mem₀)
 
-  module _ (p next size table table' row row' parent child sibling at : ℕ) (cs cs' mem mem' : List ℕ) (more : next ≡ p + 1) (some : p < parts) (long : length cs ≡ most_parts) (old : Families m next cs table row)
+  module _ (p next size table table' row row' parent child sibling at : ℕ) (cs cs' mem mem' : List ℕ) (more : next ≡ p + 1) (some : p < parts) (long : length cs ≡ length cs₀) (old : Families m next cs table row)
       (is-size : size ≡ word sizes p) (table_before : table' ≡ table - min (size * size) (2 ^ 32 - 1)) (row_before : row' ≡ row - min (size * words_in_row) (2 ^ 32 - 1))
       (is-parent : parent ≡ word parents p) (is_child : child ≡ word cs p) (is-sibling : sibling ≡ word cs parent) (adopts : cs' ≡ set cs parent p)
       (is_at : at ≡ part_at p) (stored : mem' ≡ sets mem at (part_words parent size row' table' child sibling)) where
     here : p < part_count m
-    here = omega (arith, ready.sized.count)
+    here = omega (arith, ready.count)
 
     later : next ≡ suc p
     later = omega arith
 
     size_is : size ≡ size_of m p
-    size_is = is-size ∙ ready.sized.shown p here
+    size_is = is-size ∙ ready.sizes_shown p here
 
     size_small : size < 65536
-    size_small = omega (arith, size_is, ready.sized.small p here)
+    size_small = omega (arith, size_is, ready.small p here)
 
     parent_is : parent ≡ parent_of m p
     parent_is = is-parent ∙ ready.parents_shown p here
@@ -109,7 +108,7 @@ module _ (m : Map) (parents sizes : List ℕ) (parts used : ℕ) (mem₀ : List 
     unfolding children first_from
     child_is =
         is_child
-        ∙ first_later p (omega (arith, long, ready.few, here))
+        ∙ first_later p (omega (arith, long, ready.wide, ready.few, here))
         ∙ ap (first_or 0) (sym (keep_from (child_test m p) (suc p) (part_count m) (omega (arith, here)) none_below))
       where
         by_number : (c : ℕ) → c < suc p → Dec (c ≡ 0) → child_test m p c ≡ false
@@ -150,9 +149,9 @@ module _ (m : Map) (parents sizes : List ℕ) (parts used : ℕ) (mem₀ : List 
 
         by : Dec (p ≡ 0) → word cs (parent_of m p) ≡ first_or 0 (keep (child_test m (parent_of m p)) (count_from (suc p) (part_count m - suc p)))
         by (yes root) =
-            get_or-eq_default cs 0 (omega (arith, long, ready.root, ap (parent_of m) root))
+            get_or-eq_default cs 0 (omega (arith, long, ready.wide, ready.root, ap (parent_of m) root))
             ∙ ap (first_or 0) (sym (keep_none (child_test m (parent_of m p)) (count_from (suc p) (part_count m - suc p)) (λ q h. none_here q h root)))
-        by (no other) = first_later (parent_of m p) (omega (arith, long, ready.few, here, ready.falls p (omega (arith, other)) here))
+        by (no other) = first_later (parent_of m p) (omega (arith, long, ready.wide, ready.few, here, ready.falls p (omega (arith, other)) here))
 
     same_record : part_words parent size row' table' child sibling ≡ part_record m p
     unfolding part_record
@@ -183,7 +182,7 @@ module _ (m : Map) (parents sizes : List ℕ) (parts used : ℕ) (mem₀ : List 
             sym (ap (first_or 0) (from_p ∙ ap (λ (b : Bool). cond b (p ∷ keep (child_test m q) (count_from (suc p) (part_count m - suc p))) (keep (child_test m q) (count_from (suc p) (part_count m - suc p)))) e))
 
         by : Dec (q ≡ parent) → Dec (p ≡ 0) → word cs' q ≡ first_or 0 (keep (child_test m q) (count_from p (part_count m - p)))
-        by (yes same) (yes root) = absurd (omega (arith, in_room, long, same, parent_is, ready.root, ap (parent_of m) root))
+        by (yes same) (yes root) = absurd (omega (arith, in_room, long, ready.wide, same, parent_is, ready.root, ap (parent_of m) root))
         by (yes same) (no real) =
             ap (λ (l : List ℕ). word l q) adopts
             ∙ ap (word (set cs parent p)) same

@@ -2,7 +2,8 @@
 // in front of the children of its parent.
 #![tactic(auto)]
 
-ghost use Rattle.std.specs.Prelude.{◌≡◌, ◌-◌, ◌*◌, ◌^◌, min, set};
+ghost use Rattle.std.specs.Prelude.{◌≡◌, ◌-◌, ◌*◌, ◌^◌, ◌≤◌, min, set};
+ghost use Rattle.words.specs.Limits.{most_parts};
 ghost use Rattle.words.specs.Lists.{word};
 ghost use Rattle.layout.specs.Layout.{words_in_row};
 ghost use Rattle.roads.specs.Map.{Map};
@@ -11,7 +12,6 @@ ghost use Rattle.opening_parts.specs.Parts.{Sized, PartsReady, PartsStand};
 
 use cells::{put, word};
 use layout::{HeadRecord, PartRecord, RowRecord};
-use map_parts::ShownMap;
 use records::put_words;
 
 // Where so many rows begin that end at `end`.
@@ -29,7 +29,7 @@ fn table_start(end: u32, size: u32) -> u32
 }
 
 // Where the rows of all parts begin that end at `rows_end`.
-fn rows_begin(sizes: &[u32], parts: u32, rows_end: u32) -> u32
+pub fn rows_begin(sizes: &[u32], parts: u32, rows_end: u32) -> u32
     ensures { (m : Map) → Sized m sizes.now parts rows_end → result ≡ rows_at m }
 {
     let mut row = rows_end;
@@ -49,21 +49,29 @@ fn adopt(children: &mut [u32], parent: u32, p: u32) -> u32
     sibling
 }
 
-// The parts of the map, with so many rows each. Its rows end at the memory's last word in use, and its tables end where its rows begin.
-pub fn write_parts(shown: &ShownMap, sizes: &[u32], used: u32, mem: &mut [u32])
-    ensures { (m : Map) → PartsReady m shown.now.parents sizes.now shown.now.counts.parts used mem.old → PartsStand m 0 mem.old mem.new }
+// The parts of a map whose tables end where its rows begin, at `tables_end`, and whose rows end at `rows_end`; `children`, all 0 before, has a
+// word for each part.
+pub fn write_parts(
+    parents: &[u32],
+    sizes: &[u32],
+    parts: u32,
+    tables_end: u32,
+    rows_end: u32,
+    children: &mut [u32],
+    mem: &mut [u32],
+)
+    requires { parts ≤ most_parts }
+    ensures { (m : Map) → PartsReady m parents.now sizes.now parts tables_end rows_end children.old mem.old → PartsStand m 0 mem.old mem.new }
 {
-    let parts = shown.counts.parts;
-    let mut children: [u32; 512] = [0; 512];
-    let mut table = rows_begin(sizes, parts, used);
-    let mut row = used;
+    let mut table = tables_end;
+    let mut row = rows_end;
     for p in (0..parts).rev() {
         let size = word(sizes, p as usize);
         table = table_start(table, size);
         row = row_start(row, size);
-        let parent = shown.parent(p);
-        let child = word(&children, p as usize);
-        let sibling = adopt(&mut children, parent, p);
+        let parent = word(parents, p as usize);
+        let child = word(children, p as usize);
+        let sibling = adopt(children, parent, p);
         let at = HeadRecord::WORDS + PartRecord::WORDS * p as usize;
         put_words(mem, at, [parent, size, row, table, child, sibling, 0, 0]);
     }

@@ -8,7 +8,7 @@ use Rattle.words.specs.Limits.{most_parts}
 use Rattle.words.specs.Lists.{word}
 use Rattle.words.proofs.Tests.{true_or_false}
 use Rattle.words.proofs.Stores.{stored_in, stored_out}
-use Rattle.layout.specs.Layout.{itself_in_vertex, words_in_row, child_in_row}
+use Rattle.layout.specs.Layout.{words_in_vertex, itself_in_vertex, words_in_row, child_in_row}
 use Rattle.roads.specs.Map.{Map, part_count}
 use Rattle.roads.proofs.Trail.{Net}
 use Rattle.parts.specs.Tree.{parent_of, leaf_of, holds}
@@ -19,10 +19,8 @@ use Rattle.maps.proofs.Distances.{sound_net, sound_tree}
 use Rattle.image.specs.Places.{itself_at, first_row_of, row_at}
 use Rattle.image.specs.Image.{part_below, row_below}
 use Rattle.opening_fresh.specs.Fresh.{fresh_row}
-use Rattle.counts.specs.declared.Counts.{Counts}
-use Rattle.places.specs.Place.{vertex_address}
 use Rattle.opening_rows.specs.declared.Vertex.{Vertex}
-use Rattle.opening_rows.specs.Rows.{has_row, row_place, row_words, RowWritten, Standing, RowsStand, FirstRows, RowsReady}
+use Rattle.opening_rows.specs.Rows.{has_row, row_place, row_words, RowWritten, Standing, RowsStand, RowsReady}
 use Rattle.opening_rows.proofs.Places.{place_first, place_row, place_within, place_next, place_left, place_rises, part_rises, part_from, part_to}
 use Rattle.opening_rows.proofs.Way.{row_in_leaf, leaf_below, below_small, row_holds, no_later, row_part, parent_lower, parent_row, parent_holds, parent_below, no_more}
 
@@ -267,19 +265,19 @@ module _ (m : Map) (parents : List ℕ) (vertex : Vertex) (st : Standing m paren
         by q (inr e) d = inr e
 
 -- Before the first vertex, each part's next place is its first.
-module _ (m : Map) (parents leaves lifts : List ℕ) (counts : Counts) (mem : List ℕ) (ready : RowsReady m parents leaves lifts counts mem) where
-  pub rows_none : (cursors : List ℕ) → FirstRows mem counts.parts cursors → RowsStand m 0 (λ q. true) mem cursors mem
-  rows_none cursors read =
+module _ (m : Map) (parents leaves lifts : List ℕ) (vertices base : ℕ) (cursors mem : List ℕ) (ready : RowsReady m parents leaves lifts vertices base cursors mem) where
+  pub rows_none : RowsStand m 0 (λ q. true) mem cursors mem
+  rows_none =
       record {
         long = refl;
         room = ready.room;
-        wide = read.wide;
-        cursor = λ q h. read.first q (omega (arith, h, ready.part_count_lem)) (omega (arith, h, ready.sound.parts.1)) ∙ ready.first q h ∙ sym (place_first m q);
+        wide = ready.wide;
+        cursor = λ q h. ready.first q h ∙ sym (place_first m q);
         right = λ q u w h below e hw. absurd (omega arith);
         kept = λ i h. refl;
       }
 
-  pub standing : (vertex : Vertex) → vertex.number < counts.vertices → vertex.leaf ≡ word leaves vertex.number → vertex.lift ≡ word lifts vertex.number → vertex.itself ≡ vertex_address counts vertex.number + itself_in_vertex
+  pub standing : (vertex : Vertex) → vertex.number < vertices → vertex.leaf ≡ word leaves vertex.number → vertex.lift ≡ word lifts vertex.number → vertex.itself ≡ base + (words_in_vertex * vertex.number + itself_in_vertex)
       → Standing m parents vertex
   unfolding itself_at
   standing vertex h l f i =

@@ -4,14 +4,13 @@ use Rattle.std.proofs.lemmas.List.Edits.{sets}
 use Rattle.words.specs.Limits.{most_parts, NONE, FAR}
 use Rattle.words.specs.Lists.{word, any}
 use Rattle.words.specs.Ranks.{rank}
-use Rattle.layout.specs.Layout.{rows_in_part, words_in_row, child_in_row, vertices_from, part_word}
+use Rattle.layout.specs.Layout.{rows_in_part, words_in_row, child_in_row, part_word}
 use Rattle.roads.specs.Map.{Map, part_count}
 use Rattle.parts.specs.Tree.{leaf_of, holds, children, is_leaf}
 use Rattle.parts.specs.Border.{boundary}
 use Rattle.parts.specs.Size.{need}
 use Rattle.maps.specs.Sound.{Sound}
 use Rattle.image.specs.Places.{vertices_at, rows_at, itself_at, first_row_of}
-use Rattle.counts.specs.declared.Counts.{Counts}
 use Rattle.map_shown.specs.Shown.{ShowsParents, ShowsLeaves, ShowsLifts}
 use Rattle.opening_fresh.specs.Fresh.{fresh_row}
 use Rattle.opening_rows.specs.declared.Vertex.{Vertex}
@@ -58,20 +57,20 @@ pub record RowsDone (m : Map) (before after : List ℕ) : Type 0 where
   pub cursors : List ℕ
   pub rows : RowsStand m m.vertices (λ q. true) before cursors after
 
--- where the rows of the parts below `parts` start
-pub record FirstRows (mem : List ℕ) (parts : ℕ) (cursors : List ℕ) : Type 0 where
-  pub wide : length cursors ≡ most_parts
-  pub first : (p : ℕ) → p < parts → p < most_parts → word cursors p ≡ part_word mem p rows_in_part
+-- where the rows of the parts start
+pub record FirstRows (mem : List ℕ) (parts : ℕ) (cursors cursors' : List ℕ) : Type 0 where
+  pub long : length cursors' ≡ length cursors
+  pub first : (p : ℕ) → p < parts → p < length cursors → word cursors' p ≡ part_word mem p rows_in_part
 
--- what is lent shows the vertices and parts of m, whose records stand, and has room for its rows
-pub record RowsReady (m : Map) (parents leaves lifts : List ℕ) (counts : Counts) (mem : List ℕ) : Type 0 where
+-- what is lent shows the vertices and parts of m and has room for its rows
+pub record RowsReady (m : Map) (parents leaves lifts : List ℕ) (vertices base : ℕ) (cursors mem : List ℕ) : Type 0 where
   pub sound : Sound m
   pub small : need m < 2 ^ 32
-  pub count : counts.vertices ≡ m.vertices
-  pub part_count_lem : counts.parts ≡ part_count m
-  pub begins : vertices_from counts.parts ≡ vertices_at m
+  pub count : vertices ≡ m.vertices
+  pub begins : base ≡ vertices_at m
   pub parents_shown : ShowsParents m parents
   pub leaves_shown : ShowsLeaves m leaves
   pub lifts_shown : ShowsLifts m lifts
-  pub first : (p : ℕ) → p < part_count m → part_word mem p rows_in_part ≡ first_row_of m p
+  pub wide : length cursors ≡ most_parts
+  pub first : (p : ℕ) → p < part_count m → word cursors p ≡ first_row_of m p
   pub room : need m ≤ length mem

@@ -2,16 +2,15 @@
 // that it is a border of. So each part's rows come in rising order, and the row in the child is written just before the row in its parent.
 #![tactic(auto)]
 
-ghost use Rattle.std.specs.Prelude.{◌≡◌, ℕ, suc, ◌+◌, ◌*◌, ◌<◌, true, List};
+ghost use Rattle.std.specs.Prelude.{◌≡◌, ℕ, suc, ◌+◌, ◌*◌, ◌<◌, ◌≤◌, true, List};
+ghost use Rattle.words.specs.Limits.{most_vertices, most_parts};
 ghost use Rattle.layout.specs.Layout.{child_in_row};
 ghost use Rattle.roads.specs.Map.{Map};
-ghost use Rattle.opening_rows.specs.Rows.{RowWritten, Standing, RowsReady, RowsStand, RowsDone, FirstRows};
+ghost use Rattle.opening_rows.specs.Rows.{RowWritten, Standing, RowsReady, RowsStand, FirstRows};
 
 use cells::{put, word};
 use counts::Counts;
 use layout::{PartRecord, RowRecord, VertexRecord, part_word};
-use map_parts::ShownMap;
-use places::vertex_at;
 use records::put_words;
 use rows::Row;
 
@@ -48,8 +47,8 @@ struct Vertex {
 }
 
 // The rows of a vertex, from its leaf upward.
-fn climb(shown: &ShownMap, vertex: Vertex, cursors: &mut [u32], mem: &mut [u32])
-    ensures { (m : Map) (start : List ℕ) → Standing m shown.now.parents vertex → RowsStand m vertex.number (λ q. true) start cursors.old mem.old → RowsStand m (suc vertex.number) (λ q. true) start cursors.new mem.new }
+fn climb(parents: &[u32], vertex: Vertex, cursors: &mut [u32], mem: &mut [u32])
+    ensures { (m : Map) (start : List ℕ) → Standing m parents.now vertex → RowsStand m vertex.number (λ q. true) start cursors.old mem.old → RowsStand m (suc vertex.number) (λ q. true) start cursors.new mem.new }
 {
     let mut part = vertex.leaf;
     let mut child = 0;
@@ -61,37 +60,40 @@ fn climb(shown: &ShownMap, vertex: Vertex, cursors: &mut [u32], mem: &mut [u32])
         }
         child = part;
         below = at;
-        part = shown.parent(part);
+        part = word(parents, part as usize);
     }
 }
 
 // The address of the first row of each part, from the parts' records.
-fn first_rows(mem: &[u32], parts: u32) -> [u32; 512]
-    ensures { FirstRows mem.now parts result }
+pub fn first_rows(mem: &[u32], parts: u32, cursors: &mut [u32])
+    requires { parts ≤ most_parts }
+    ensures { FirstRows mem.now parts cursors.old cursors.new }
 {
-    let mut cursors: [u32; 512] = [0; 512];
     for p in 0..parts {
-        put(
-            &mut cursors,
-            p as usize,
-            part_word(mem, p, PartRecord::ROWS),
-        );
+        put(cursors, p as usize, part_word(mem, p, PartRecord::ROWS));
     }
-    cursors
 }
 
-// The rows of the map, with these lifts of its vertices, whose parts' records stand.
-pub fn write_rows(shown: &ShownMap, lifts: &[u32], mem: &mut [u32])
-    ensures { (m : Map) → RowsReady m shown.now.parents shown.now.leaves lifts.now shown.now.counts mem.old → RowsDone m mem.old mem.new }
+// The rows of a map whose vertices' section starts at `base`; `cursors` has the address of the first row of each part.
+pub fn write_rows(
+    parents: &[u32],
+    leaves: &[u32],
+    lifts: &[u32],
+    vertices: u32,
+    base: u32,
+    cursors: &mut [u32],
+    mem: &mut [u32],
+)
+    requires { (vertices ≤ most_vertices) × (base ≤ 65536) }
+    ensures { (m : Map) → RowsReady m parents.now leaves.now lifts.now vertices base cursors.old mem.old → RowsStand m vertices (λ q. true) mem.old cursors.new mem.new }
 {
-    let mut cursors = first_rows(mem, shown.counts.parts);
-    for v in 0..shown.counts.vertices {
+    for v in 0..vertices {
         let vertex = Vertex {
             number: v,
-            leaf: shown.leaf(v),
+            leaf: word(leaves, v as usize),
             lift: word(lifts, v as usize),
-            itself: (vertex_at(shown.counts, v) + VertexRecord::ITSELF) as u32,
+            itself: base + (VertexRecord::WORDS * v as usize + VertexRecord::ITSELF) as u32,
         };
-        climb(shown, vertex, &mut cursors, mem);
+        climb(parents, vertex, cursors, mem);
     }
 }
