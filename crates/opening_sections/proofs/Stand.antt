@@ -30,14 +30,12 @@ use Rattle.records.specs.Agrees.{Agrees}
 use Rattle.records.proofs.Agrees.{agrees_join, agrees_within, written_agrees, written_kept, stored_agrees, cleared_agrees, cleared_kept}
 use Rattle.counts.specs.declared.Counts.{Counts}
 use Rattle.places.specs.Place.{van_address}
-use Rattle.map_parts.specs.declared.shown.ShownMap.{ShownMap}
-use Rattle.map_borders.specs.declared.Measures.{Measures}
 use Rattle.opening_fresh.specs.Fresh.{fresh_vertex}
 use Rattle.opening_fresh.proofs.Fresh.{fresh_slots, fresh_count, fresh_vertex_lem, fresh_row_lem, fresh_van}
 use Rattle.opening_parts.specs.Parts.{PartsStand}
-use Rattle.opening_rows.specs.Rows.{has_row, row_place, RowsDone}
+use Rattle.opening_rows.specs.Rows.{has_row, row_place}
 use Rattle.opening_rows.proofs.Places.{rows_kept, place_row}
-use Rattle.opening_sections.specs.Sections.{MapShown, NetStands, Sections}
+use Rattle.opening_sections.specs.Sections.{MapShown, NetStands, RowsDone, Sections}
 
 -- the stores of `write_head`
 pub head_stored : (mem p q : List ℕ) (used vertices roads parts start : ℕ) → p ≡ sets mem 0 (20481 ∷ used ∷ vertices ∷ roads ∷ parts ∷ start ∷ []) → q ≡ cleared p 6 58
@@ -98,22 +96,19 @@ module _ (m : Map) (start : ℕ) where
       (cleared_agrees target c d (vans_at m) n e (omega (arith, tables_start m, all)) (λ j h. van_none j (omega (arith, all)))))
 
   -- the sections before the tables
-  module _ (shown : ShownMap) (measures : Measures) (used : ℕ) (is : MapShown m shown measures used) where
-    abbrev counts : Counts
-    counts = shown.counts
-
+  module _ (parents leaves body lifts sizes : List ℕ) (counts : Counts) (used : ℕ) (shown : MapShown m parents leaves body lifts sizes counts.vertices counts.roads counts.parts used) where
     pub front_stands : (mem a b c d : List ℕ) (at n : ℕ) → length mem ≡ used → a ≡ sets mem 0 (head_record used counts.vertices counts.roads counts.parts start) → PartsStand m 0 a b → NetStands m b c
         → at ≡ van_address counts 0 → n ≡ words_in_van * vans → d ≡ cleared c at n → Agrees target 0 (tables_at m) d
     front_stands mem a b c d at n long e w net place all f =
-        vans_agree c d n all (f ∙ ap (λ (k : ℕ). cleared c k n) here) (omega (arith, same_length, is.counted.need_is, rows_end m, rows_start m))
+        vans_agree c d n all (f ∙ ap (λ (k : ℕ). cleared c k n) here) (omega (arith, same_length, shown.counted.need_is, rows_end m, rows_start m))
         (net_agrees b c net
-        (parts_agree a b w (head_agrees mem a (e ∙ ap (sets mem 0) (same_head ∙ head_is)) (omega (arith, long, is.counted.need_is, rows_end m, rows_start m, tables_start m)))))
+        (parts_agree a b w (head_agrees mem a (e ∙ ap (sets mem 0) (same_head ∙ head_is)) (omega (arith, long, shown.counted.need_is, rows_end m, rows_start m, tables_start m)))))
       where
         here : at ≡ vans_at m
-        here = omega (arith, place, vans_start m, roads_start m, is.counted.part_count_lem, is.counted.vertex_count_lem, is.counted.road_count_lem)
+        here = omega (arith, place, vans_start m, roads_start m, shown.counted.part_count_lem, shown.counted.vertex_count_lem, shown.counted.road_count_lem)
 
         same_head : head_record used counts.vertices counts.roads counts.parts start ≡ head_record (need m) m.vertices (road_count m) (part_count m) start
-        same_head = (λ i. head_record (is.counted.need_is i) (is.counted.vertex_count_lem i) (is.counted.road_count_lem i) (is.counted.part_count_lem i) start)
+        same_head = (λ i. head_record (shown.counted.need_is i) (shown.counted.vertex_count_lem i) (shown.counted.road_count_lem i) (shown.counted.part_count_lem i) start)
 
         same_length : length c ≡ used
         same_length =
