@@ -52,11 +52,6 @@ pub record RowsStand (m : Map) (v : ℕ) (rest : ℕ → Bool) (start cursors me
   pub right : (q u w : ℕ) → q < part_count m → u < cond (rest q) v (suc v) → has_row m q u ≡ true → w < words_in_row → word mem (row_place m q u + w) ≡ word (fresh_row m q u) w
   pub kept : (i : ℕ) → i < rows_at m → word mem i ≡ word start i
 
--- the rows of all vertices are written
-pub record RowsDone (m : Map) (before after : List ℕ) : Type 0 where
-  pub cursors : List ℕ
-  pub rows : RowsStand m m.vertices (λ q. true) before cursors after
-
 -- where the rows of the parts start
 pub record FirstRows (mem : List ℕ) (parts : ℕ) (cursors cursors' : List ℕ) : Type 0 where
   pub long : length cursors' ≡ length cursors
