@@ -50,7 +50,7 @@ opened_whole bytes mem start m used words j u h w =
     ∙ sym (ap (λ (b : Bool). (open_sound (5 unless b then 0) m mem start).memory) high))
 
 -- the counts and the need of a sound map, as the sections ask for them
-pub counted : {bytes : List ℕ} {counts : Counts} {used : ℕ} (a : Accepts bytes counts used) → Counted a.map counts used
+pub counted : {bytes : List ℕ} {counts : Counts} {used : ℕ} (a : Accepts bytes counts used) → Counted a.map counts.vertices counts.roads counts.parts used
 counted a = record { vertex_count_lem = a.vertices; road_count_lem = a.roads; part_count_lem = a.parts; need_is = a.need_is }
 
 -- its counts are within their limits

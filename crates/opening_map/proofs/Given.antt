@@ -25,7 +25,7 @@ abbrev pub GivenBy : Map → ShownMap → Type 0
 GivenBy m shown = Given m shown.parents shown.leaves shown.body.now shown.counts.vertices shown.counts.roads shown.counts.parts
 
 -- what the sections' functions are lent shows the map
-pub shown_by : (m : Map) (shown : ShownMap) (measures : Measures) (used : ℕ) → GivenBy m shown → Sound m → Counted m shown.counts used → Lifts m measures.lifts → Sizes m measures.sizes → sections.MapShown m shown measures used
+pub shown_by : (m : Map) (shown : ShownMap) (measures : Measures) (used : ℕ) → GivenBy m shown → Sound m → Counted m shown.counts.vertices shown.counts.roads shown.counts.parts used → Lifts m measures.lifts → Sizes m measures.sizes → sections.MapShown m shown.parents shown.leaves shown.body.now measures.lifts measures.sizes shown.counts.vertices shown.counts.roads shown.counts.parts used
 shown_by m shown measures used given is-sound counted is-lifts is-sizes =
     record {
       sound = is-sound;
@@ -38,7 +38,7 @@ shown_by m shown measures used given is-sound counted is-lifts is-sizes =
     }
 
 -- the counts are those of record 1
-counts_by : (bytes : List ℕ) (m : Map) (counts : Counts) (used : ℕ) → judge bytes ≡ sound m → Counted m counts used → the_counts counts.vertices counts.roads counts.parts ≡ counts_of bytes
+counts_by : (bytes : List ℕ) (m : Map) (counts : Counts) (used : ℕ) → judge bytes ≡ sound m → Counted m counts.vertices counts.roads counts.parts used → the_counts counts.vertices counts.roads counts.parts ≡ counts_of bytes
 unfolding decode
 counts_by bytes m counts used judged counted =
     let c = counts_of bytes in
@@ -49,7 +49,7 @@ counts_by bytes m counts used judged counted =
     (λ i. the_counts (vertices i) (roads i) (parts i))
 
 -- so the map is what was read
-pub given_map : (bytes : List ℕ) (m : Map) (counts : Counts) (used : ℕ) (shown : ShownMap) → judge bytes ≡ sound m → Counted m counts used → shown.counts ≡ counts
+pub given_map : (bytes : List ℕ) (m : Map) (counts : Counts) (used : ℕ) (shown : ShownMap) → judge bytes ≡ sound m → Counted m counts.vertices counts.roads counts.parts used → shown.counts ≡ counts
     → ShowsPartsOf (decode bytes (the_counts counts.vertices counts.roads counts.parts)) shown.parents shown.leaves shown.counts.vertices shown.counts.parts
     → (decode bytes (the_counts counts.vertices counts.roads counts.parts)).roads ≡ roads_of shown.counts.roads shown.body.now → GivenBy m shown
 given_map bytes m counts used shown judged counted same shows roads =

@@ -16,7 +16,7 @@ use opening_sections::write_sections;
 // The map that the bytes show, with the counts and the need that were found; the memory has as many words as that.
 pub fn write_map(map: &[u8], found: Sound, start: u32, mem: &mut [u32])
     requires { (found.counts.vertices ≤ most_vertices) × (found.counts.roads ≤ most_roads) × (found.counts.parts ≤ most_parts) }
-    ensures { (m : Map) → judge map.now ≡ sound m → Counted m found.counts found.need → length mem.old ≡ found.need → Sections m start mem.new }
+    ensures { (m : Map) → judge map.now ≡ sound m → Counted m found.counts.vertices found.counts.roads found.counts.parts found.need → length mem.old ≡ found.need → Sections m start mem.new }
 {
     let shown = ShownMap::read(map, found.counts);
     let measures = measure(
@@ -26,5 +26,15 @@ pub fn write_map(map: &[u8], found: Sound, start: u32, mem: &mut [u32])
         shown.counts.vertices,
         shown.counts.roads,
     );
-    write_sections(&shown, &measures, found.need, start, mem);
+    write_sections(
+        &shown.parents,
+        &shown.leaves,
+        shown.body,
+        &measures.lifts,
+        &measures.sizes,
+        shown.counts,
+        found.need,
+        start,
+        mem,
+    );
 }

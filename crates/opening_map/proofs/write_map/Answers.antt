@@ -15,4 +15,4 @@ returns c =
     let given = given_map args.map.now m args.found.counts args.found.need c.read-shown.result judged counted read.counts read.parts read.roads in
     let measured = c.measure-measures.ensures.2 m _ given in
     c.write_sections.ensures m
-    (shown_by m c.read-shown.result c.measure-measures.result args.found.need given (judged_sound args.map.now m judged) (subst (λ (k : Counts). Counted m k args.found.need) (sym read.counts) counted) measured.0 measured.1) long
+    (shown_by m c.read-shown.result c.measure-measures.result args.found.need given (judged_sound args.map.now m judged) (subst (λ (k : Counts). Counted m k.vertices k.roads k.parts args.found.need) (sym read.counts) counted) measured.0 measured.1) long
