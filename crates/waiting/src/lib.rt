@@ -10,8 +10,8 @@ ghost use Rattle.waiting.specs.Waiting.{Picked};
 use far_sums::FAR;
 use std::marker::Model;
 
-// The key FAR with vertex 0.
-pub const NO_KEY: u64 = 281474976645120;
+// What every node of the tree shows before a vertex waits: above each key with its vertex.
+pub const NO_KEY: u64 = u64::MAX;
 
 // A key with its vertex, which is an index here, with its limit in a clause of each function. The lesser of two has the lesser key. Not `row_words::numbered`, which is of a memory's rows: a search knows none.
 fn keyed(key: u32, v: usize) -> u64
