@@ -9,12 +9,14 @@ use Rattle.std.proofs.lemmas.Slice.{put_mid-paste}
 use Rattle.std.proofs.lemmas.List.Edits.{paste_all}
 use Rattle.records.specs.Cleared.{cleared}
 
--- the words from number i on, that one first
-pub words_more : (mem words : List ℕ) (at i : ℕ) → i < length words → sets (set mem (at + i) (get_or words i 0)) (at + (i + 1)) (drop (i + 1) words) ≡ sets mem (at + i) (drop i words)
-words_more mem words at i h =
+-- the words from number i on, where that one was stored first
+pub words_more : (mem words : List ℕ) (at i : ℕ) {mem' : List ℕ} {place : ℕ} → mem' ≡ set mem place (get_or words i 0) → place ≡ at + i → i < length words
+    → sets mem' (at + (i + 1)) (drop (i + 1) words) ≡ sets mem (at + i) (drop i words)
+words_more mem words at i stored here h =
     let next : at + (i + 1) ≡ suc (at + i) = omega arith in
     let one : i + 1 ≡ suc i = omega arith in
-    ap₂ (λ (k : ℕ) (ws : List ℕ). sets (set mem (at + i) (get_or words i 0)) k ws) next (ap (λ (k : ℕ). drop k words) one)
+    ap (λ (m : List ℕ). sets m (at + (i + 1)) (drop (i + 1) words)) (stored ∙ ap (λ (k : ℕ). set mem k (get_or words i 0)) here)
+    ∙ ap₂ (λ (k : ℕ) (ws : List ℕ). sets (set mem (at + i) (get_or words i 0)) k ws) next (ap (λ (k : ℕ). drop k words) one)
     ∙ sym (ap (sets mem (at + i)) (drop-cons words i 0 h))
 
 -- past the end nothing is stored

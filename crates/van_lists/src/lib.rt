@@ -30,6 +30,9 @@ impl VanWords {
 
     pub const MOST_DESK: u32 = 255;
 
+    // The change count, and so the last stamp, at which no change is accepted any more.
+    pub const LAST_STAMP: u32 = 4294967295;
+
     pub const FREE: u32 = 1;
 
     pub const ABSENT: VanWords = VanWords {

@@ -10,6 +10,9 @@ ghost use Rattle.waiting.specs.Waiting.{Picked};
 use far_sums::FAR;
 use std::marker::Model;
 
+// What every node of the tree shows before a vertex waits: above each key with its vertex.
+pub const NO_KEY: u64 = u64::MAX;
+
 // A key with its vertex, which is an index here, with its limit in a clause of each function. The lesser of two has the lesser key. Not `row_words::numbered`, which is of a memory's rows: a search knows none.
 fn keyed(key: u32, v: usize) -> u64
     requires { v < 4096 }
@@ -94,7 +97,7 @@ impl Waiting {
         ensures { result ≡ replicate most_vertices FAR }
     {
         Waiting {
-            tree: [u64::MAX; 1365],
+            tree: [NO_KEY; 1365],
             keys: [FAR; 4096],
         }
     }

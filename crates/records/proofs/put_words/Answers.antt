@@ -1,6 +1,6 @@
 -- `put_words` stores one word after the other.
 -- Assumes nothing.
-use Rattle.std.proofs.Common.{◌+◌, drop, ap, sym, ◌∙◌, arith}
+use Rattle.std.proofs.Common.{◌+◌, ap, sym, ◌∙◌, arith}
 use Rattle.std.proofs.lemmas.List.Edits.{sets}
 use lib.ListN.{drop_of_length-le}
 use Rattle.records.proofs.Stores.{words_more, sets_past}
@@ -8,7 +8,7 @@ use Rattle.records.proofs.put_words.Goals as goal
 
 pub loop-i-preserved : goal.loop-i-preserved
 loop-i-preserved g c =
-    (c.loop-i.invariant.0, ap (λ m. sets m (c.args.at + (c.loop-i.i + 1)) (drop (c.loop-i.i + 1) c.args.words)) c.put.ensures ∙ words_more c.loop-i.mem c.args.words c.args.at c.loop-i.i (omega (arith, c.loop-i.invariant.0)) ∙ c.loop-i.invariant.1)
+    (c.loop-i.invariant.0, words_more c.loop-i.mem c.args.words c.args.at c.loop-i.i c.put.ensures (omega arith) (omega (arith, c.loop-i.invariant.0)) ∙ c.loop-i.invariant.1)
 
 pub returns-after-loop-i : goal.returns-after-loop-i
 returns-after-loop-i g c =
