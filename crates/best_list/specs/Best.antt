@@ -1,12 +1,17 @@
 -- What the list of the best holds, and what an offer does to it.
-use Rattle.std.specs.Prelude.{◌≡◌, ◌⊎◌, cond, List, [], ◌∷◌, ℕ, ◌-◌, ◌≤◌, ◌<◌, length, take, get_or, map, ltb}
+use Rattle.std.specs.Prelude.{◌≡◌, ◌⊎◌, cond, List, [], ◌∷◌, ℕ, ◌-◌, ◌≤◌, ◌<◌, length, take, get_or, map, replicate, ltb}
 use Rattle.fleet.specs.Question.{Listed, listed_before}
 use Rattle.best_list.specs.declared.Offer.{Offer}
 
--- the offers that are listed, the first of them first, and how many may be
+-- the offers that are listed, the first of them first, what stands in the room behind them, and how many may be listed
 pub record Best : Type 0 where
   pub offers : List Offer
+  pub rest : List Offer
   pub k : ℕ
+
+-- nothing is listed yet: all the room is left, for 32 offers
+abbrev pub nothing_listed : ℕ → Best
+nothing_listed k = record { offers = []; rest = replicate 32 (record { far = 0; van = 0 }); k = k }
 
 -- a van with its distance, and the stamp that it has by `stampOf`
 abbrev pub listed : (ℕ → ℕ) → ℕ → ℕ → Listed

@@ -1,9 +1,9 @@
 // The list of the best k so far: vans with their distances, in order of distance and then van number at every moment.
 #![tactic(auto)]
 
-ghost use Rattle.std.specs.Prelude.{◌≡◌, [], ℕ, ◌≤◌, ◌<◌, length};
+ghost use Rattle.std.specs.Prelude.{◌≡◌, ℕ, ◌≤◌, ◌<◌, length, take, drop};
 ghost use Rattle.fleet.specs.Question.{listed_before};
-ghost use Rattle.best_list.specs.Best.{Best, listing, entries, limit_of, offered, InOrder, BeforeNone};
+ghost use Rattle.best_list.specs.Best.{Best, listing, entries, nothing_listed, limit_of, offered, InOrder, BeforeNone, Standing};
 
 use std::marker::Model;
 
@@ -25,7 +25,7 @@ impl Offer {
 }
 
 // Room for offers, of which the first `len` are listed, and how many may be.
-#[derive(Drop)]
+#[derive(Clone, Copy)]
 pub struct BestList {
     offers: [Offer; BestList::MOST],
     len: usize,
@@ -33,14 +33,20 @@ pub struct BestList {
 }
 
 impl Model for BestList {
-    ghost use Rattle.std.specs.Prelude.{take};
+    ghost use Rattle.std.specs.Prelude.{◌++◌, length, take, drop};
+    ghost use Rattle.std.proofs.Common.{arith, refl};
+    ghost use Rattle.std.proofs.lemmas.List.{take-append-drop, length-take-le};
     ghost use Rattle.best_list.specs.Best.{Best, Standing};
 
     ghost Value = { Best };
 
-    ghost view = { λ l. record { offers = take l.len l.offers; k = l.k } };
+    ghost view = { λ l. record { offers = take l.len l.offers; rest = drop l.len l.offers; k = l.k } };
 
     ghost invariant = { λ l. Standing l.offers l.len l.k };
+
+    ghost inverse = { λ b. record { offers = b.offers ++ b.rest; len = length b.offers; k = b.k } };
+
+    ghost inverse_ok = { λ l h. rw (take-append-drop l.len l.offers, length-take-le l.len l.offers (omega (arith, h.room, h.most, h.all))) refl };
 }
 
 impl BestList {
@@ -50,13 +56,21 @@ impl BestList {
     // Nothing is listed yet.
     pub fn new(k: usize) -> Self
         requires { (1 ≤ k) × (k ≤ 32) }
-        ensures { result ≡ record { offers = []; k = k } }
+        ensures { result ≡ nothing_listed k }
     {
         BestList {
             offers: [Offer { far: 0, van: 0 }; BestList::MOST],
             len: 0,
             k,
         }
+    }
+
+    // The first `len` of some offers are listed, which are in order.
+    pub fn of(offers: [Offer; BestList::MOST], len: usize, k: usize) -> Self
+        requires { Standing offers len k }
+        ensures { result ≡ record { offers = take len offers; rest = drop len offers; k = k } }
+    {
+        BestList { offers, len, k }
     }
 
     // The offers that are listed, the first of them first.

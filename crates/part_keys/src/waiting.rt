@@ -11,7 +11,7 @@ use far_sums::FAR;
 
 // The keys of all parts, FAR where one has none yet, and the parts that wait: the first n of `waits`. A part joins them when it gets its first key. FAR is the top of
 // the order, so `min` and `<` need no case for a part without a key; distances have it for "none yet" likewise.
-#[derive(Drop)]
+#[derive(Clone, Copy)]
 pub struct PartsWaiting {
     pub keys: [u32; PartsWaiting::MOST],
     pub waits: [u32; PartsWaiting::MOST],

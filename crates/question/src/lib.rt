@@ -19,7 +19,7 @@ use part_keys::PartsWaiting;
 use part_words::{MOST_ROWS, row_count};
 use places::counts_in;
 use row_lists::{RowLists, active_rows};
-use search::Search;
+pub use search::Search;
 use van_offers::{van_word, vertex_word};
 
 mod search;

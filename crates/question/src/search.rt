@@ -25,7 +25,7 @@ use van_offers::{offer_rows, vertex_word};
 
 // A search between two turns: the parts that wait, the rows looked at last, the vans listed, the part climbed to, and the bound of what lies outside it.
 // The memory and `dx` are lent to each method: a struct that holds a `&mut` would have to ensure at each that it holds the same one still.
-#[derive(Drop)]
+#[derive(Clone, Copy)]
 pub struct Search {
     pub waiting: PartsWaiting,
     pub lists: RowLists,

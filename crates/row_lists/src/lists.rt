@@ -6,7 +6,7 @@ use part_words::MOST_ROWS;
 
 // The rows whose vertices have a distance to the vertex asked at, the first `known` of `places`, each with its distance in `near`; and the rows whose distance is
 // asked for, the first `count` of `asked`.
-#[derive(Drop)]
+#[derive(Clone, Copy)]
 pub struct RowLists {
     pub places: [u32; MOST_ROWS],
     pub near: [u32; MOST_ROWS],
