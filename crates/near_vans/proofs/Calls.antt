@@ -1,7 +1,7 @@
 -- What the calls of a search, one after the other, come to. Each law is over plain values, so that a need only names its facts.
 -- Assumes nothing.
 use mathlib.Core.Path.{◌≡◌, refl, subst}
-use mathlib.Core.List.{List}
+use mathlib.Core.List.{List, []}
 use Prim.Native.Nat.{ℕ, ◌%◌, ◌+◌, ◌≤◌, ◌<◌}
 use native.Mathlib.Omega.{arith}
 use Rattle.words.specs.Lists.{word}
@@ -10,7 +10,8 @@ use Rattle.counts.specs.declared.Counts.{Counts}
 use Rattle.fleet.specs.State.{State}
 use Rattle.fleet.specs.Question.{Listed, nearest}
 use Rattle.places.specs.Place.{counts_in, vertex_address}
-use Rattle.best_list.specs.Best.{Best, nothing_listed, entries, limit_of, offered_all}
+use Rattle.best_list.specs.Best.{Best, entries, limit_of, offered_all}
+use Rattle.best_list.specs.declared.Offer.{Offer}
 use Rattle.van_offers.specs.Offers.{stamp_in, van_offers}
 use Rattle.van_offers.specs.Genuine.{Genuine, list_in}
 use Rattle.van_offers.proofs.Steps.{vans_end}
@@ -26,8 +27,8 @@ abbrev pub Answers : (mem : List ℕ) (x k : ℕ) (list : Best) → Type 0
 Answers mem x k list = (m : Map) (fleet : State) → Genuine m fleet mem → x < m.vertices → list_in mem list ≡ nearest m fleet x k
 
 module _ (mem : List ℕ) (x k : ℕ) (some : 1 ≤ k) where
-  pub begun : {w f : Waits} → NothingTaken w → Met (x % 4096) 0 w f → Keeps mem x k f (nothing_listed k)
-  begun fresh met m fleet g hx = started g x hx k some fresh met
+  pub begun : {w f : Waits} (rest : List Offer) → NothingTaken w → Met (x % 4096) 0 w f → Keeps mem x k f (record { offers = []; rest = rest; k = k })
+  begun rest fresh met m fleet g hx = started g x hx k some fresh met
 
   module _ {f : Waits} (list : Best) (kept : Keeps mem x k f list) where
     pub none_waits : f.n ≡ 0 → Answers mem x k list

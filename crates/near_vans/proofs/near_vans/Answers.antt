@@ -1,13 +1,13 @@
 -- `near_vans` turns until its list is the answer, or gives up.
 -- Assumes nothing.
 use mathlib.Core.Path.{refl, ◌∙◌}
-use Rattle.best_list.specs.Best.{Best}
+use Rattle.best_list.specs.Best.{Best, nothing_listed}
 use Rattle.near_vans.proofs.Calls.{begun, none_waits, all_farther, goes_on_lem, none_offered, some_offered}
 use Rattle.near_vans.proofs.near_vans.Goals as goal
 use Rattle.near_vans.proofs.near_vans.Goals.{then-link-ne0, else-link-ne0}
 
 pub loop-init : goal.loop-init
-loop-init c = rw c.new-list.ensures (refl, begun _ _ _ c.requires.0 c.new-front.ensures c.in_ok-meet.ensures)
+loop-init c = rw c.new-list.ensures (refl, begun _ _ _ c.requires.0 (nothing_listed c.args.k).rest c.new-front.ensures c.in_ok-meet.ensures)
 
 pub returns-in_default : goal.returns-in_default
 returns-in_default c = (c.loop.invariant.0, none_waits _ _ _ c.requires.0 c.loop.list c.loop.invariant.1 c.in_default.ensures)
