@@ -11,7 +11,7 @@ ghost use Rattle.map_borders.specs.Sizes.{Given, Lifts, Sizes};
 
 use cells::{lower, word};
 use counts::Counts;
-use map_parts::{Part, bump, tally};
+use map_parts::{Part, bump, tally_into};
 use map_roads::Road;
 
 // Each step to a parent lowers one of two part numbers.
@@ -49,14 +49,13 @@ fn lift_road(parents: &[u32], leaves: &[u32], body: &[u8], i: u32, lifts: &mut [
 }
 
 // Every road lowers the lifts of its ends. They start at 65,535, above every part's number, and no Option: each is the least of such numbers, and is only compared.
-fn lift_all(parents: &[u32], leaves: &[u32], body: &[u8], roads: u32) -> [u32; 4096]
-    ensures { Lifted parents.now leaves.now body.now roads result }
+fn lift_all(parents: &[u32], leaves: &[u32], body: &[u8], roads: u32, lifts: &mut [u32; 4096])
+    ensures { Lifted parents.now leaves.now body.now roads lifts.new }
 {
-    let mut lifts: [u32; 4096] = [Part::NONE; 4096];
+    lifts.fill(Part::NONE);
     for i in 0..roads {
-        lift_road(parents, leaves, body, i, &mut lifts);
+        lift_road(parents, leaves, body, i, lifts);
     }
-    lifts
 }
 
 // Counts a vertex for each part that it is a border of: the parents of the parts above its lift, from its leaf upward. Counts up to 4,000,000,000 leave room for one more from each part.
@@ -74,7 +73,7 @@ fn mark(parents: &[u32], leaf: u32, lift: u32, counts: &mut [u32; 512])
     }
 }
 
-// Counts every vertex for each part that it is a border of. They start as `tally` left them: none above 65,536.
+// Counts every vertex for each part that it is a border of. They start as `tally_into` left them: none above 65,536.
 fn count_all(
     parents: &[u32],
     leaves: &[u32],
@@ -98,15 +97,29 @@ pub struct Measures {
     pub sizes: [u32; 512],
 }
 
+impl Measures {
+    // The same as `measure` gives, in place of what they were: an array that is lent is copied nowhere.
+    pub fn take(&mut self, parents: &[u32], leaves: &[u32], body: &[u8], vertices: u32, roads: u32)
+        requires { vertices ≤ most_vertices }
+        ensures { (length self.new.lifts ≡ most_vertices) × (length self.new.sizes ≡ most_parts) × ((m : Map) (parts : ℕ) → Given m parents.now leaves.now body.now vertices roads parts → Lifts m self.new.lifts × Sizes m self.new.sizes) }
+    {
+        lift_all(parents, leaves, body, roads, &mut self.lifts);
+        tally_into(leaves, vertices, &mut self.sizes);
+        count_all(parents, leaves, &self.lifts, vertices, &mut self.sizes);
+    }
+}
+
 // Five parameters and no type that holds them: callers may have any words and any bytes, within no limits but that of `vertices`.
 pub fn measure(parents: &[u32], leaves: &[u32], body: &[u8], vertices: u32, roads: u32) -> Measures
     requires { vertices ≤ most_vertices }
     ensures { (length result.lifts ≡ most_vertices) × (length result.sizes ≡ most_parts) × ((m : Map) (parts : ℕ) → Given m parents.now leaves.now body.now vertices roads parts → Lifts m result.lifts × Sizes m result.sizes) }
 {
-    let lifts = lift_all(parents, leaves, body, roads);
-    let mut sizes = tally(leaves, vertices);
-    count_all(parents, leaves, &lifts, vertices, &mut sizes);
-    Measures { lifts, sizes }
+    let mut measures = Measures {
+        lifts: [0; 4096],
+        sizes: [0; 512],
+    };
+    measures.take(parents, leaves, body, vertices, roads);
+    measures
 }
 
 // None of the parts has more than 128 rows. Of `Measures` only the sizes are looked at, so only these are asked for.

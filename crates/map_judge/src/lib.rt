@@ -14,7 +14,7 @@ ghost use Rattle.map_judge.specs.Verdict.{said, due, ruled, CountsShown};
 
 use answers::Refusal;
 use counts::Counts;
-use map_borders::{measure, sizes_fit};
+use map_borders::{Measures, sizes_fit};
 use map_bytes::{is_record, number2};
 use map_parts::ShownMap;
 use map_roads::roads_fit;
@@ -115,7 +115,12 @@ fn judge_rules(shown: &ShownMap) -> Result<Sound, Refusal>
     if !roads_fit(shown.body, counts.vertices, counts.roads) {
         return Err(Refusal::MapRoads);
     }
-    let measures = measure(
+    // Not by `measure`: the arrays that a function gives are copied.
+    let mut measures = Measures {
+        lifts: [0; 4096],
+        sizes: [0; 512],
+    };
+    measures.take(
         &shown.parents,
         &shown.leaves,
         shown.body,
@@ -136,5 +141,13 @@ pub fn judge_map(map: &[u8]) -> Result<Sound, Refusal>
     ensures { said result ≡ due (judge map.now) }
 {
     let counts = shown_counts(map)?;
-    judge_rules(&ShownMap::read(map, counts))
+    // Not by `ShownMap::read`: the arrays that a function gives are copied.
+    let mut shown = ShownMap {
+        counts,
+        parents: [0; 512],
+        leaves: [0; 4096],
+        body: map,
+    };
+    shown.show(map);
+    judge_rules(&shown)
 }

@@ -66,10 +66,19 @@ pub fn tally(numbers: &[u32], n: u32) -> [u32; 512]
     ensures { Tallied numbers.now n result }
 {
     let mut counts: [u32; 512] = [0; 512];
-    for i in 0..n {
-        bump(&mut counts, word(numbers, i as usize));
-    }
+    tally_into(numbers, n, &mut counts);
     counts
+}
+
+// The same, in place of what the counts were: an array that is lent is copied nowhere.
+pub fn tally_into(numbers: &[u32], n: u32, counts: &mut [u32; 512])
+    requires { n < 65536 }
+    ensures { Tallied numbers.now n counts.new }
+{
+    counts.fill(0);
+    for i in 0..n {
+        bump(counts, word(numbers, i as usize));
+    }
 }
 
 impl<'a> ShownMap<'a> {
@@ -140,9 +149,11 @@ impl<'a> ShownMap<'a> {
         if self.parent(0) != Part::NONE {
             return false;
         }
-        // Two arrays, not one of `Part`: one `tally` counts either.
-        let children = tally(&self.parents, self.counts.parts);
-        let homes = tally(&self.leaves, self.counts.vertices);
+        // Two arrays, not one of `Part`: one `tally_into` counts either.
+        let mut children: [u32; 512] = [0; 512];
+        tally_into(&self.parents, self.counts.parts, &mut children);
+        let mut homes: [u32; 512] = [0; 512];
+        tally_into(&self.leaves, self.counts.vertices, &mut homes);
         self.tree_fits(&children, &homes) && self.vertices_stand(&children)
     }
 }

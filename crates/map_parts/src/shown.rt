@@ -38,19 +38,28 @@ impl<'a> ShownMap<'a> {
         ensures parts { ShowsPartsOf (decode map.now (the_counts counts.vertices counts.roads counts.parts)) result.parents result.leaves result.counts.vertices result.counts.parts }
         ensures roads { (decode map.now (the_counts counts.vertices counts.roads counts.parts)).roads ≡ roads_of result.counts.roads result.body.now }
     {
-        let parents_at = RECORD_1 + BEFORE_BODY;
-        let mut parents: [u32; 512] = [0; 512];
-        copy_numbers(rest(map, parents_at), counts.parts, &mut parents);
-        let leaves_at = parents_at + 2 * (counts.parts as usize) + BEFORE_BODY;
-        let mut leaves: [u32; 4096] = [0; 4096];
-        copy_numbers(rest(map, leaves_at), counts.vertices, &mut leaves);
-        let roads_at = leaves_at + 2 * (counts.vertices as usize) + BEFORE_BODY;
-        Self {
+        let mut shown = Self {
             counts,
-            parents,
-            leaves,
-            body: rest(map, roads_at),
-        }
+            parents: [0; 512],
+            leaves: [0; 4096],
+            body: map,
+        };
+        shown.show(map);
+        shown
+    }
+
+    // The map that these bytes show by its counts, in place of what it showed: an array that is lent is copied nowhere.
+    pub fn show(&mut self, map: &'a [u8])
+        ensures counts { self.new.counts ≡ self.old.counts }
+        ensures parts { ShowsPartsOf (decode map.now (the_counts self.old.counts.vertices self.old.counts.roads self.old.counts.parts)) self.new.parents self.new.leaves self.new.counts.vertices self.new.counts.parts }
+        ensures roads { (decode map.now (the_counts self.old.counts.vertices self.old.counts.roads self.old.counts.parts)).roads ≡ roads_of self.new.counts.roads self.new.body.now }
+    {
+        let parents_at = RECORD_1 + BEFORE_BODY;
+        copy_numbers(rest(map, parents_at), self.counts.parts, &mut self.parents);
+        let leaves_at = parents_at + 2 * (self.counts.parts as usize) + BEFORE_BODY;
+        copy_numbers(rest(map, leaves_at), self.counts.vertices, &mut self.leaves);
+        let roads_at = leaves_at + 2 * (self.counts.vertices as usize) + BEFORE_BODY;
+        self.body = rest(map, roads_at);
     }
 
     pub fn parent(&self, p: u32) -> u32

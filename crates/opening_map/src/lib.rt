@@ -8,7 +8,7 @@ ghost use Rattle.maps.specs.Judge.{sound, judge};
 ghost use Rattle.opening_sections.specs.Counted.{Counted};
 ghost use Rattle.opening_sections.specs.Sections.{Sections};
 
-use map_borders::measure;
+use map_borders::Measures;
 use map_judge::Sound;
 use map_parts::ShownMap;
 use opening_sections::write_sections;
@@ -18,8 +18,19 @@ pub fn write_map(map: &[u8], found: Sound, start: u32, mem: &mut [u32])
     requires { (found.counts.vertices ≤ most_vertices) × (found.counts.roads ≤ most_roads) × (found.counts.parts ≤ most_parts) }
     ensures { (m : Map) → judge map.now ≡ sound m → Counted m found.counts.vertices found.counts.roads found.counts.parts found.need → length mem.old ≡ found.need → Sections m start mem.new }
 {
-    let shown = ShownMap::read(map, found.counts);
-    let measures = measure(
+    // Not by `ShownMap::read` and `measure`: the arrays that a function gives are copied.
+    let mut shown = ShownMap {
+        counts: found.counts,
+        parents: [0; 512],
+        leaves: [0; 4096],
+        body: map,
+    };
+    shown.show(map);
+    let mut measures = Measures {
+        lifts: [0; 4096],
+        sizes: [0; 512],
+    };
+    measures.take(
         &shown.parents,
         &shown.leaves,
         shown.body,

@@ -7,4 +7,4 @@ use Rattle.map_judge.proofs.judge_map.Goals as goal
 pub returns : goal.returns
 returns c =
     let h = c.in_ok-counts.ensures.shown in
-    c.judge_rules.ensures _ c.read.ensures.parts c.read.ensures.roads ∙ judge_by c.args.map.now refl h.is_first h.shown refl h.fit refl h.rest
+    c.judge_rules.ensures _ c.show.ensures.parts c.show.ensures.roads ∙ judge_by c.args.map.now refl h.is_first h.shown refl h.fit refl h.rest

@@ -16,7 +16,7 @@ returns-then-not-sizes_fit c = λ m shows roads.
     let good_parts = (sym (c.parts_fit.ensures m shows) ∙ c.if-not-parts_fit.false) in
     let good_roads = (roads_known m _ _ _ shows.vertex_count roads c.roads_fit.ensures c.if-not-roads_fit.false) in
     let given = given_of _ _ _ _ (omega arith) (omega arith) shows roads good_parts good_roads in
-    rules_by m good_parts good_roads (borders_known given _ (c.measure-measures.ensures.2 m _ given).1 c.sizes_fit.ensures c.if-not-sizes_fit.true)
+    rules_by m good_parts good_roads (borders_known given _ (c.take.ensures.2 m _ given).1 c.sizes_fit.ensures c.if-not-sizes_fit.true)
 
 pub need-requires : goal.need-requires
 need-requires c = (record { vertices = omega arith; roads = omega arith; some = omega arith; parts = omega arith }, each_few _ _ c.sizes_fit.ensures c.if-not-sizes_fit.false)
@@ -26,6 +26,6 @@ returns c = λ m shows roads.
     let good_parts = (sym (c.parts_fit.ensures m shows) ∙ c.if-not-parts_fit.false) in
     let good_roads = (roads_known m _ _ _ shows.vertex_count roads c.roads_fit.ensures c.if-not-roads_fit.false) in
     let given = given_of _ _ _ _ (omega arith) (omega arith) shows roads good_parts good_roads in
-    let sizes = (c.measure-measures.ensures.2 m _ given).1 in
+    let sizes = (c.take.ensures.2 m _ given).1 in
     sound_by m _ _ _ _ _ shows roads sizes c.need.ensures
     ∙ rules_by m good_parts good_roads (borders_known given _ sizes c.sizes_fit.ensures c.if-not-sizes_fit.false)

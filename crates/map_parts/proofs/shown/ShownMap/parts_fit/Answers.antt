@@ -19,13 +19,13 @@ returns-then-parent-ne-NONE c m shows = no_root m _ _ _ _ shows c.requires (at-r
 
 pub returns-then-tree_fits : goal.returns-then-tree_fits
 returns-then-tree_fits c m shows =
-    parts_fit_is m _ _ _ _ shows _ _ c.tally-children.ensures c.tally-homes.ensures (omega arith) c.requires
+    parts_fit_is m _ _ _ _ shows _ _ c.tally_into.ensures c.tally_into-2.ensures (omega arith) c.requires
     (at-root c.parent.ensures (eq-eqb _ _ c.if-parent-ne-NONE.false))
     (sym c.if-tree_fits.true ∙ c.tree_fits.ensures) c.vertices_stand.ensures
 
 pub returns-else-tree_fits : goal.returns-else-tree_fits
 returns-else-tree_fits c m shows =
     c.if-tree_fits.false
-    ∙ parts_fit_is m _ _ _ _ shows _ _ c.tally-children.ensures c.tally-homes.ensures (omega arith) c.requires
+    ∙ parts_fit_is m _ _ _ _ shows _ _ c.tally_into.ensures c.tally_into-2.ensures (omega arith) c.requires
     (at-root c.parent.ensures (eq-eqb _ _ c.if-parent-ne-NONE.false))
     (sym c.if-tree_fits.false ∙ c.tree_fits.ensures) refl
