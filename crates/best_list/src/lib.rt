@@ -1,9 +1,9 @@
 // The list of the best k so far: vans with their distances, in order of distance and then van number at every moment.
 #![tactic(auto)]
 
-ghost use Rattle.std.specs.Prelude.{◌≡◌, ℕ, ◌≤◌, ◌<◌, length, take, drop};
+ghost use Rattle.std.specs.Prelude.{◌≡◌, ℕ, ◌+◌, ◌≤◌, ◌<◌, length, take, drop, map};
 ghost use Rattle.fleet.specs.Question.{listed_before};
-ghost use Rattle.best_list.specs.Best.{Best, listing, entries, nothing_listed, limit_of, offered, InOrder, BeforeNone, Standing};
+ghost use Rattle.best_list.specs.Best.{Best, listing, entries, nothing_listed, limit_of, pass, offered, InOrder, Standing};
 
 use std::marker::Model;
 
@@ -20,7 +20,13 @@ impl Offer {
     pub fn comes_before(self, other: Offer) -> bool
         ensures { (stampOf : ℕ → ℕ) → result ≡ listed_before (listing stampOf self) (listing stampOf other) }
     {
-        self.far < other.far || (self.far == other.far && self.van < other.van)
+        if self.far < other.far {
+            return true;
+        }
+        if self.far == other.far {
+            return self.van < other.van;
+        }
+        false
     }
 }
 
@@ -95,20 +101,7 @@ impl BestList {
         }
     }
 
-    // Where a new offer goes: looked for from the back, since vans come roughly nearest first.
-    fn place_of(&self, offer: Offer) -> usize
-        ensures within { result ≤ length self.now.offers }
-        ensures first { BeforeNone self.now.offers result offer }
-    {
-        for i in (0..self.len).rev() {
-            if !offer.comes_before(self.offers[i]) {
-                return i + 1;
-            }
-        }
-        0
-    }
-
-    // A van offered: one pass from its place on, which leaves it there and carries what it displaces on.
+    // A van offered. Where the list is full and it comes before the last one, that one makes room.
     pub fn offer(&mut self, offer: Offer)
         ensures k { self.new.k ≡ self.old.k }
         ensures list { (stampOf : ℕ → ℕ) → entries stampOf self.new ≡ offered self.old.k (listing stampOf offer) (entries stampOf self.old) }
@@ -116,17 +109,33 @@ impl BestList {
         if self.limit() < offer.far {
             return;
         }
-        let mut carried = offer;
-        for i in self.place_of(offer)..self.len {
-            let here = self.offers[i];
-            if carried.comes_before(here) {
-                self.offers[i] = carried;
-                carried = here;
+        let mut end = self.len;
+        if end == self.k {
+            end -= 1;
+            if !offer.comes_before(self.offers[end]) {
+                return;
             }
         }
-        if self.len < self.k {
-            self.offers[self.len] = carried;
-            self.len += 1;
-        }
+        put_in(&mut self.offers, end, offer);
+        self.len = end + 1;
     }
+}
+
+// An offer put in among the first `end`, which are in order: those that it comes before move on by one place each, from the back, since vans come roughly nearest first.
+fn put_in(offers: &mut [Offer; BestList::MOST], end: usize, offer: Offer)
+    requires room { end < 32 }
+    requires order { InOrder (take end offers.old) }
+    ensures all { length offers.new ≡ 32 }
+    ensures order { InOrder (take (end + 1) offers.new) }
+    ensures list { (stampOf : ℕ → ℕ) → map (listing stampOf) (take (end + 1) offers.new) ≡ pass (listing stampOf offer) (map (listing stampOf) (take end offers.old)) }
+{
+    for i in (0..end).rev() {
+        let here = offers[i];
+        if !offer.comes_before(here) {
+            offers[i + 1] = offer;
+            return;
+        }
+        offers[i + 1] = here;
+    }
+    offers[0] = offer;
 }
