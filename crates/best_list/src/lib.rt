@@ -15,7 +15,7 @@ pub struct Offer {
 }
 
 impl Offer {
-    // This offer is listed before another. The order is written out, since a derived one is compiled without a jump, and the passes over a list then take longer.
+    // This offer is listed before another. The order is written out in steps, since a derived one is compiled without a jump, and `||` to tests that are all made; an offer then takes longer.
     #[tactic(auto, unfolding(fleet::specs::Question::listed_before))]
     pub fn comes_before(self, other: Offer) -> bool
         ensures { (stampOf : ℕ → ℕ) → result ≡ listed_before (listing stampOf self) (listing stampOf other) }
@@ -110,7 +110,7 @@ impl BestList {
             return;
         }
         let mut end = self.len;
-        if end == self.k {
+        if self.k <= end {
             end -= 1;
             if !offer.comes_before(self.offers[end]) {
                 return;
