@@ -15,7 +15,7 @@ pub struct Offer {
 }
 
 impl Offer {
-    // This offer is listed before another. The order is written out, since a derived one is compiled without a jump, and the passes over a list then take longer.
+    // This offer is listed before another. The order is written out in steps, so that a jump follows each: a derived one is compiled without, which takes longer, and with `||` the numbers are compared at each distance too.
     #[tactic(auto, unfolding(fleet::specs::Question::listed_before))]
     pub fn comes_before(self, other: Offer) -> bool
         ensures { (stampOf : ℕ → ℕ) → result ≡ listed_before (listing stampOf self) (listing stampOf other) }
@@ -110,7 +110,7 @@ impl BestList {
             return;
         }
         let mut end = self.len;
-        if end == self.k {
+        if self.k <= end {
             end -= 1;
             if !offer.comes_before(self.offers[end]) {
                 return;
